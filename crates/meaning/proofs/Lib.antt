@@ -1,0 +1,5 @@
+-- The worked depot and the published examples, computed from the definitions.
+pub mod Claims
+pub mod Depot
+pub mod Published
+pub mod Worked
