@@ -34,6 +34,14 @@ one-use = record {
   marks = 0 ∷ 0 ∷ 0 ∷ 0 ∷ 0 ∷ 0 ∷ 0 ∷ 0 ∷ 0 ∷ 0 ∷ 0 ∷ 0 ∷ 0 ∷ 1 ∷ 0 ∷ [];
 }
 
+-- a use and a release that both have no tile
+abbrev pub no-tiles : Lent
+no-tiles = record {
+  tables = record { width = 3; rows = 1; start = 0 } ∷ record { width = 3; rows = 1; start = 3 } ∷ [];
+  cells = pos 3 ∷ pos 0 ∷ pos 9 ∷ pos 0 ∷ pos 1 ∷ pos 30 ∷ [];
+  marks = 0 ∷ 1 ∷ 0 ∷ 1 ∷ 0 ∷ 0 ∷ [];
+}
+
 abbrev pub uses : Plan
 uses = leaf 0 3
 
@@ -129,6 +137,11 @@ depot-examples =
     -- P10 "left join on tile, all defaults null: one joined row, right side null."
     ∷ record {
       lent = one-use;
+      claims = gives (join (leftOuter three-nulls) on-tile uses releases) ((n 3 ∷ null ∷ n 9 ∷ null ∷ null ∷ null ∷ []) ∷ []) ∷ [];
+    }
+    -- "Treating null tiles as equal in a join because grouping does" would join these two
+    ∷ record {
+      lent = no-tiles;
       claims = gives (join (leftOuter three-nulls) on-tile uses releases) ((n 3 ∷ null ∷ n 9 ∷ null ∷ null ∷ null ∷ []) ∷ []) ∷ [];
     }
     ∷ []

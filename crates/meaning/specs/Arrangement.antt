@@ -5,7 +5,7 @@ use Prim.Native.Nat.{ℕ, zero, suc, _+_, _*_, _/_, _%_}
 use lib.ListN.{length, replicate}
 use lib.IntN.{ℤ, pos, negsuc}
 use Rattle.meaning.specs.Cells.{Cell, null, num}
-use Rattle.meaning.specs.Plans.{Row, Name, Rows, Count, Sum, Least, Greatest, DistinctSum, DistinctCount, WeightedSum, WeightedCount, Aggregate, nameOf, columnsRead, Pair, Join, inner, leftOuter, fullOuter, Plan, leaf, join, group}
+use Rattle.meaning.specs.Plans.{Row, Name, Rows, Count, Sum, Least, Greatest, DistinctSum, DistinctCount, WeightedSum, WeightedCount, Aggregate, nameOf, columnsRead, Pair, Join, inner, leftOuter, fullOuter, leftDefaults, rightDefaults, Plan, leaf, join, group}
 
 -- a whole number as a natural one: 0, -1, 1, -2, 2 .. become 0, 1, 2, 3, 4 ..
 unfoldable pub zigzag : ℤ → ℕ
@@ -22,19 +22,28 @@ unfoldable pub cellBytes : Cell → List ℕ
 cellBytes null = 1 ∷ replicate 8 0
 cellBytes (num z) = 0 ∷ lowFirst 7 (zigzag z)
 
-unfoldable pub defaultBytes : Row → List ℕ
-defaultBytes [] = []
-defaultBytes (d ∷ ds) = cellBytes d ++ defaultBytes ds
+-- things one behind the other, each in its bytes
+unfoldable pub inRow : {A : Type 0} → (A → List ℕ) → List A → List ℕ
+inRow f [] = []
+inRow f (x ∷ xs) = f x ++ inRow f xs
 
-unfoldable pub pairBytes : List Pair → List ℕ
-pairBytes [] = []
-pairBytes (p ∷ ps) = p .left ∷ p .right ∷ pairBytes ps
+unfoldable pub pairBytes : Pair → List ℕ
+pairBytes p = p .left ∷ p .right ∷ []
+
+-- the number of a join's kind
+unfoldable pub joinNumber : Join → ℕ
+joinNumber inner = 1
+joinNumber (leftOuter dr) = 2
+joinNumber (fullOuter dl dr) = 3
 
 -- a join: its kind, how many pairs, left defaults and right defaults, then these in this order
 unfoldable pub joinBytes : Join → List Pair → List ℕ
-joinBytes inner ps = 1 ∷ length ps ∷ 0 ∷ 0 ∷ pairBytes ps
-joinBytes (leftOuter dr) ps = 2 ∷ length ps ∷ 0 ∷ length dr ∷ pairBytes ps ++ defaultBytes dr
-joinBytes (fullOuter dl dr) ps = 3 ∷ length ps ∷ length dl ∷ length dr ∷ pairBytes ps ++ (defaultBytes dl ++ defaultBytes dr)
+joinBytes j ps =
+    joinNumber j
+    ∷ length ps
+    ∷ length (leftDefaults j)
+    ∷ length (rightDefaults j)
+    ∷ inRow pairBytes ps ++ (inRow cellBytes (leftDefaults j) ++ inRow cellBytes (rightDefaults j))
 
 -- the number of an aggregate's name, in the order of the rule table
 unfoldable pub nameNumber : Name → ℕ
@@ -55,13 +64,15 @@ twoPlaces (v ∷ []) = v ∷ 0 ∷ []
 twoPlaces (v ∷ c ∷ more) = v ∷ c ∷ []
 
 -- an aggregate: the number of its name, then v and c
-unfoldable pub aggregateBytes : List Aggregate → List ℕ
-aggregateBytes [] = []
-aggregateBytes (a ∷ rest) = (nameNumber (nameOf a) ∷ twoPlaces (columnsRead a)) ++ aggregateBytes rest
+unfoldable pub aggregateBytes : Aggregate → List ℕ
+aggregateBytes a = nameNumber (nameOf a) ∷ twoPlaces (columnsRead a)
+
+unfoldable pub columnBytes : ℕ → List ℕ
+columnBytes i = i ∷ []
 
 -- a grouping: how many grouping columns and aggregates, then these
 unfoldable pub groupBytes : List ℕ → List Aggregate → List ℕ
-groupBytes cols aggs = 4 ∷ length cols ∷ length aggs ∷ cols ++ aggregateBytes aggs
+groupBytes cols aggs = 4 ∷ length cols ∷ length aggs ∷ inRow columnBytes cols ++ inRow aggregateBytes aggs
 
 -- "nodes listed inputs first, left input's whole subtree before the right's, root last"
 unfoldable pub bytes : Plan → List ℕ

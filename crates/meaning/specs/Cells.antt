@@ -17,18 +17,18 @@ eqZ (pos a) (negsuc b) = false
 eqZ (negsuc a) (pos b) = false
 eqZ (negsuc a) (negsuc b) = eqb a b
 
--- the equality of a join's pair: "null equals nothing, not even null"
-unfoldable pub joins : Cell → Cell → Bool
-joins null b = false
-joins (num a) null = false
-joins (num a) (num b) = eqZ a b
-
 -- the equality of a grouping: "nulls count as equal here"
 unfoldable pub groups : Cell → Cell → Bool
 groups null null = true
 groups null (num b) = false
 groups (num a) null = false
 groups (num a) (num b) = eqZ a b
+
+-- the equality of a join's pair: "null equals nothing, not even null"
+unfoldable pub joins : Cell → Cell → Bool
+joins null b = false
+joins (num a) null = false
+joins (num a) (num b) = eqZ a b
 
 -- the order of a grouping: "null before every number"
 unfoldable pub below : Cell → Cell → Bool

@@ -7,7 +7,7 @@ use lib.ListN.{length}
 use lib.IntN.{ℤ, pos, natAbs}
 use Rattle.meaning.specs.Limits.{mostNodes, mostLeaves, mostColumns, mostPairs, mostSize, upTo}
 use Rattle.meaning.specs.Cells.{Cell, null, num, eqZ}
-use Rattle.meaning.specs.Plans.{Row, Aggregate, rows, count, sum, least, greatest, distinctSum, distinctCount, weightedSum, weightedCount, columnsRead, Pair, Join, inner, leftOuter, fullOuter, Plan, leaf, join, group}
+use Rattle.meaning.specs.Plans.{Row, Aggregate, rows, count, sum, least, greatest, distinctSum, distinctCount, weightedSum, weightedCount, columnsRead, Pair, Join, inner, leftOuter, fullOuter, leftDefaults, rightDefaults, Plan, leaf, join, group}
 use Rattle.meaning.specs.Arrangement.{Answers}
 use Rattle.meaning.specs.Rules.{Kind, plain, weight}
 use Rattle.meaning.specs.Columns.{width, kinds, kindAt, nodes, leaves}
@@ -83,11 +83,6 @@ defaultsRight ks [] = true
 defaultsRight [] (d ∷ ds) = true
 defaultsRight (k ∷ ks) (d ∷ ds) = defaultRight k d && defaultsRight ks ds
 
-unfoldable pub joinDefaultsRight : Join → List Kind → List Kind → Bool
-joinDefaultsRight inner l r = true
-joinDefaultsRight (leftOuter dr) l r = defaultsRight r dr
-joinDefaultsRight (fullOuter dl dr) l r = defaultsRight l dl && defaultsRight r dr
-
 unfoldable pub isWeight : Kind → Bool
 isWeight plain = false
 isWeight weight = true
@@ -125,7 +120,7 @@ aggregateRight i (weightedCount v c) = weightPlaced i v c
 -- 4, at one node: "a weight's place or kind is wrong, or a default is outside its range"
 unfoldable pub nodeWeights : Plan → Bool
 nodeWeights (leaf t w) = true
-nodeWeights (join j ps l r) = joinDefaultsRight j (kinds l) (kinds r)
+nodeWeights (join j ps l r) = defaultsRight (kinds l) (leftDefaults j) && defaultsRight (kinds r) (rightDefaults j)
 nodeWeights (group cols aggs i) = all (aggregateRight i) aggs
 
 -- the number of the check for a plan: "1 to 4 are tested in that order over the whole plan", and 1 is `Answers`' own

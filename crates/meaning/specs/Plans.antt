@@ -54,6 +54,17 @@ pub data Join : Type 0 where
   leftOuter : Row → Join
   fullOuter : Row → Row → Join
 
+-- the defaults of a join's left and of its right side, none where the side is not padded
+unfoldable pub leftDefaults : Join → Row
+leftDefaults inner = []
+leftDefaults (leftOuter dr) = []
+leftDefaults (fullOuter dl dr) = dl
+
+unfoldable pub rightDefaults : Join → Row
+rightDefaults inner = []
+rightDefaults (leftOuter dr) = dr
+rightDefaults (fullOuter dl dr) = dr
+
 -- "A plan is a tree of tables, inner joins, left outer joins with defaults, full outer joins with defaults, and groupings."
 pub data Plan : Type 0 where
   leaf : (name width : ℕ) → Plan
