@@ -29,7 +29,7 @@ map-append f [] ys = refl
 map-append f (x ∷ xs) ys = ap (λ (l : List _). f x ∷ l) (map-append f xs ys)
 
 -- an element of a mapped list, whatever is read past its end
-getD-map : {A B : Type 0} (f : A → B) (d : B) (e : A) (xs : List A) (i : ℕ) → i < length xs → getD (map f xs) i d ≡ f (getD xs i e)
+pub getD-map : {A B : Type 0} (f : A → B) (d : B) (e : A) (xs : List A) (i : ℕ) → i < length xs → getD (map f xs) i d ≡ f (getD xs i e)
 getD-map f d e [] i l = absurd (omega arith)
 getD-map f d e (x ∷ xs) zero l = refl
 getD-map f d e (x ∷ xs) (suc i) l = getD-map f d e xs i (omega arith)

@@ -1,3 +1,4 @@
 pub mod Keeping
 pub mod Copying
 pub mod Holding
+pub mod Reading
