@@ -2,3 +2,4 @@ pub mod Keeping
 pub mod Copying
 pub mod Holding
 pub mod Reading
+pub mod Clearing

@@ -1,4 +1,7 @@
 // Rows in a lent area of cells and marks: copied where they are, cell by cell.
+ghost use mathlib.Core.Path.{_≡_};
+ghost use lib.ListN.{length, replicate};
+ghost use lib.IntN.{pos};
 ghost use Rattle.regions.specs.Copying.{Room, CopiedWithin, RoomIn, CopiedIn};
 
 // Copies n cells and their marks to another place of the same area; the places lie apart.
@@ -35,6 +38,28 @@ pub fn copy_into(
         let mark = source_marks[from + i];
         cells[to + i] = cell;
         marks[to + i] = mark;
+        i += 1;
+    }
+}
+
+// Every cell of an area becomes 0.
+pub fn clear_cells(cells: &mut [i64])
+    ensures { λ r. ⌜ now (cells .exit) ≡ replicate (length (now (cells .entry))) (pos 0) ⌝ }
+{
+    let mut i = 0;
+    while i < cells.len() {
+        cells[i] = 0;
+        i += 1;
+    }
+}
+
+// Every mark of an area becomes 0.
+pub fn clear_marks(marks: &mut [u8])
+    ensures { λ r. ⌜ now (marks .exit) ≡ replicate (length (now (marks .entry))) 0 ⌝ }
+{
+    let mut i = 0;
+    while i < marks.len() {
+        marks[i] = 0;
         i += 1;
     }
 }
