@@ -15,7 +15,7 @@ use Rattle.meaning.specs.Check.{all}
 use Rattle.node_bytes.specs.Holding.{Holds, holds-head, holds-front, holds-back, holds-both, holds-nil, holds-step, holds-to}
 use Rattle.node_bytes.specs.Widths.{pair-wide, column-wide, aggregate-wide, cell-wide}
 use Rattle.node_bytes.specs.Words.{Bytes}
-use Rattle.node_bytes.specs.Rows.{and-left, and-right, every, listAt, length-list, length-row, all-true, every-all, list-back, list-holds}
+use Rattle.node_bytes.specs.Rows.{and-left, and-right, every, every-append, listAt, length-list, length-row, all-true, every-all, list-back, list-holds}
 use Rattle.node_bytes.specs.Nodes.{byte, cellGood, cellsGood, aggregateGood, aggregatesGood, joinSize, groupSize, joinGood, groupGood, sizeIf, nodeSize}
 use Rattle.arrangement.proofs.Items.{cellAt, cell-back, cell-good, cell-holds, pairAt, pair-back, pair-holds, column-back, column-holds, aggregateAt, aggregate-back, aggregate-good, aggregate-holds}
 
@@ -40,20 +40,6 @@ module _ {A : Type 0} (f : A → List ℕ) (k : ℕ) (wide : (x : A) → length 
   pass-all : (t : ℕ → Bool) → ((at : ℕ) (x : A) → Holds s at (f x) → t at ≡ true) → (at n : ℕ) (xs : List A)
       → n ≡ length xs → Holds s at (inRow f xs) → every t k at n ≡ true
   pass-all t good at n xs e h = rw e (every-all f k wide s t (λ (x : A). true) good at xs h ∙ all-true xs)
-
--- two rows of one kind of thing, one behind the other
-every-append : (t : ℕ → Bool) (k at n m : ℕ) → every t k at (n + m) ≡ (every t k at n && every t k (at + k * n) m)
-unfolding every
-every-append t k at zero m = let q : 0 + m ≡ m = omega arith in let r : at + k * 0 ≡ at = omega arith in simp (q, r)
-every-append t k at (suc n) m =
-    let q : suc n + m ≡ suc (n + m) = omega arith in
-    let r : at + k + k * n ≡ at + k * suc n = omega arith in
-    rw q (step (t at) (every t k (at + k) (n + m)) (every t k (at + k) n) (every t k (at + k * suc n) m)
-    (every-append t k (at + k) n m ∙ ap (λ (a : ℕ). every t k (at + k) n && every t k a m) r))
-  where
-    step : (a b c d : Bool) → b ≡ (c && d) → (a && b) ≡ ((a && c) && d)
-    step true b c d e = e
-    step false b c d e = refl
 
 -- ---- tables
 
@@ -205,7 +191,7 @@ module _ (s : List ℕ) (at : ℕ) (j : Join) (ps : List Pair) (h : Holds s at (
         pass-all cellBytes 9 cell-wide s (cellGood s) (cell-good s) (at + 4 + 2 * byte s (at + 1) + 9 * byte s (at + 2)) (byte s (at + 3)) (rightDefaults j) join-rights rights-held,
       )
 
-  join-good : joinGood s at ≡ true
+  pub join-good : joinGood s at ≡ true
   unfolding joinGood
   join-good = rw (all-good, join-lefts, join-rights, join-number, kind-left j, kind-right j)
 
@@ -391,7 +377,7 @@ module _ (s : List ℕ) (at : ℕ) (cols : List ℕ) (aggs : List Aggregate) (h 
       = length-append (inRow columnBytes cols) (inRow aggregateBytes aggs) in
       omega (arith, columns-long, aggregates-long, group-columns, group-aggregates)
 
-  group-good : groupGood s at ≡ true
+  pub group-good : groupGood s at ≡ true
   unfolding groupGood aggregatesGood
   group-good =
       pass-all aggregateBytes 3 aggregate-wide s (aggregateGood s) (aggregate-good s) (at + 3 + byte s (at + 1)) (byte s (at + 2)) aggs

@@ -47,6 +47,20 @@ unfolding every
 every-passes f k at zero h e = absurd (omega arith)
 every-passes f k at (suc n) h e = let q : suc n - 1 ≡ n = omega arith in simp (e, q)
 
+-- two rows of one kind of thing, one behind the other
+pub every-append : (t : ℕ → Bool) (k at n m : ℕ) → every t k at (n + m) ≡ (every t k at n && every t k (at + k * n) m)
+unfolding every
+every-append t k at zero m = let q : 0 + m ≡ m = omega arith in let r : at + k * 0 ≡ at = omega arith in simp (q, r)
+every-append t k at (suc n) m =
+    let q : suc n + m ≡ suc (n + m) = omega arith in
+    let r : at + k + k * n ≡ at + k * suc n = omega arith in
+    rw q (step (t at) (every t k (at + k) (n + m)) (every t k (at + k) n) (every t k (at + k * suc n) m)
+    (every-append t k (at + k) n m ∙ ap (λ (a : ℕ). every t k (at + k) n && every t k a m) r))
+  where
+    step : (a b c d : Bool) → b ≡ (c && d) → (a && b) ≡ ((a && c) && d)
+    step true b c d e = e
+    step false b c d e = refl
+
 -- a loop that tests n things from a place on has come to `at`, with `left` of them left
 pub record Walk (f : ℕ → Bool) (k from n at left : ℕ) : Type 0 where
   pub rest : every f k at left ≡ every f k from n

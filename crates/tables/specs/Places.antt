@@ -105,8 +105,8 @@ places-long : (ns : List ℕ) → length (placeIn ns) ≡ length ns / 3
 unfolding placeIn
 places-long ns = length-list (placeAt ns) 3 0 (length ns / 3)
 
-pub small-product : (a b : ℕ) → a ≤ 16 → b ≤ 1024 → a * b ≤ 16384
-small-product a b h k = let q : a * b ≤ 16 * 1024 = mul-le-mul h k in omega arith
+pub small-product : (a b : ℕ) → a < 256 → b ≤ 1024 → a * b ≤ 262144
+small-product a b h k = let l : a ≤ 256 = omega arith in let q : a * b ≤ 256 * 1024 = mul-le-mul l k in omega arith
 
 -- how a table of a number comes out, at each test
 module _ (ns : List ℕ) (cells : List ℤ) (marks : List ℕ) (name w : ℕ) where

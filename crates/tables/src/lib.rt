@@ -56,7 +56,7 @@ fn inside(start: usize, n: usize, cells: usize, marks: usize) -> bool
 
 // Whether the table of a number is there, has this width and is right: `tables` has three numbers a table, width, rows and start.
 pub fn table_right(tables: &[usize], cells: &[i64], marks: &[u8], name: usize, width: usize) -> bool
-    requires { ⌜ (name < 256) × (width ≤ 16) ⌝ }
+    requires { ⌜ width < 256 ⌝ }
     ensures { λ ok. ⌜ ok ≡ tableRight (now (tables .entry)) (now (cells .entry)) (now (marks .entry)) name width ⌝ }
 {
     if tables.len() / 3 <= name {

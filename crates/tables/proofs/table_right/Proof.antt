@@ -49,7 +49,7 @@ returns-4 : tie.Need-returns-4
 returns-4 c = no-rows (c .before .before .before .before .before .before .before .before .before .args .tables .now) (c .before .before .before .before .before .before .before .before .before .args .cells .now) (c .before .before .before .before .before .before .before .before .before .args .marks .now) (c .before .before .before .before .before .before .before .before .before .args .name) (c .before .before .before .before .before .before .before .before .before .args .width) (c .before .before .before .before .before .before .if1 .left) (c .before .before .if2 .left) (c .before .if3 .left) (c .if4 .taken)
 
 mul-inside : tie.Need-mul-inside
-mul-inside c = record { fits = omega (arith, small-product (c .before .before .before .before .before .before .before .before .before .args .width) (getD (c .before .before .before .before .before .before .before .before .before .args .tables .now) (3 * c .before .before .before .before .before .before .before .before .before .args .name + 1) 0) (c .before .before .before .before .before .before .before .before .before .pre .1) (c .before .if3 .left)) }
+mul-inside c = record { fits = omega (arith, small-product (c .before .before .before .before .before .before .before .before .before .args .width) (getD (c .before .before .before .before .before .before .before .before .before .args .tables .now) (3 * c .before .before .before .before .before .before .before .before .before .args .name + 1) 0) (c .before .before .before .before .before .before .before .before .before .pre) (c .before .if3 .left)) }
 
 inside-requires : tie.Need-inside-requires
 inside-requires c κs = search needs
@@ -58,7 +58,7 @@ returns-5 : tie.Need-returns-5
 returns-5 c = outside (c .before .before .before .before .before .before .before .before .before .before .before .args .tables .now) (c .before .before .before .before .before .before .before .before .before .before .before .args .cells .now) (c .before .before .before .before .before .before .before .before .before .before .before .args .marks .now) (c .before .before .before .before .before .before .before .before .before .before .before .args .name) (c .before .before .before .before .before .before .before .before .before .before .before .args .width) (c .before .before .before .before .before .before .before .before .if1 .left) (c .before .before .before .before .if2 .left) (c .before .before .before .if3 .left) (c .before .before .if4 .left) (sym (c .before .inside .ensures) ∙ not-true _ (c .if5 .taken))
 
 mul-cells-right : tie.Need-mul-cells-right
-mul-cells-right c = record { fits = omega (arith, small-product (c .before .before .before .before .before .before .before .before .before .before .before .args .width) (getD (c .before .before .before .before .before .before .before .before .before .before .before .args .tables .now) (3 * c .before .before .before .before .before .before .before .before .before .before .before .args .name + 1) 0) (c .before .before .before .before .before .before .before .before .before .before .before .pre .1) (c .before .before .before .if3 .left)) }
+mul-cells-right c = record { fits = omega (arith, small-product (c .before .before .before .before .before .before .before .before .before .before .before .args .width) (getD (c .before .before .before .before .before .before .before .before .before .before .before .args .tables .now) (3 * c .before .before .before .before .before .before .before .before .before .before .before .args .name + 1) 0) (c .before .before .before .before .before .before .before .before .before .before .before .pre) (c .before .before .before .if3 .left)) }
 
 cells-right-requires : tie.Need-cells-right-requires
 cells-right-requires c κs = cells-there (c .before .before .before .before .before .before .before .before .before .before .before .args .tables .now) (c .before .before .before .before .before .before .before .before .before .before .before .args .cells .now) (c .before .before .before .before .before .before .before .before .before .before .before .args .marks .now) (c .before .before .before .before .before .before .before .before .before .before .before .args .name) (c .before .before .before .before .before .before .before .before .before .before .before .args .width) (c .before .before .before .before .before .before .before .before .if1 .left) (c .before .before .before .before .if2 .left) (c .before .before .before .if3 .left) (c .before .before .if4 .left) (sym (c .before .inside .ensures) ∙ not-false _ (c .if5 .left))

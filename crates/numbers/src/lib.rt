@@ -1,0 +1,1 @@
+// No code: specs/ has the laws of whole numbers that the kit lacks.
