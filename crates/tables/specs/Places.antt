@@ -94,14 +94,14 @@ list-getD g k at zero i d h = absurd (omega arith)
 list-getD g k at (suc n) zero d h = ap g (let q : at ≡ at + k * 0 = omega arith in q)
 list-getD g k at (suc n) (suc i) d h = list-getD g k (at + k) n i d (omega arith) ∙ ap g (let q : at + k + k * i ≡ at + k * suc i = omega arith in q)
 
-placeIn-at : (ns : List ℕ) (k : ℕ) → k < length ns / 3 → getD (placeIn ns) k nowhere ≡ placeAt ns (3 * k)
+pub placeIn-at : (ns : List ℕ) (k : ℕ) → k < length ns / 3 → getD (placeIn ns) k nowhere ≡ placeAt ns (3 * k)
 unfolding placeIn
 placeIn-at ns k h = each 0 (length ns / 3) k h ∙ ap (placeAt ns) (let q : 0 + 3 * k ≡ 3 * k = omega arith in q)
   where
     each : (at n k : ℕ) → k < n → getD (listAt (placeAt ns) 3 at n) k nowhere ≡ placeAt ns (at + 3 * k)
     each at n k h = list-getD (placeAt ns) 3 at n k nowhere h
 
-places-long : (ns : List ℕ) → length (placeIn ns) ≡ length ns / 3
+pub places-long : (ns : List ℕ) → length (placeIn ns) ≡ length ns / 3
 unfolding placeIn
 places-long ns = length-list (placeAt ns) 3 0 (length ns / 3)
 
