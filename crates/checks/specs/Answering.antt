@@ -10,7 +10,7 @@ use lib.ListN.{getD}
 use borrow.Author.Tests.{le-leb, lt-leb}
 use Rattle.meaning.specs.Limits.{mostNodes, mostLeaves}
 use Rattle.meaning.specs.Plans.{Plan}
-use Rattle.meaning.specs.Columns.{nodes, leaves}
+use Rattle.meaning.specs.Columns.{width, nodes, leaves}
 use Rattle.meaning.specs.Arrangement.{bytes, forNoPlan, forPlan}
 use Rattle.meaning.specs.Check.{Checks, checkNumber}
 use Rattle.node_bytes.specs.Words.{Bytes}
@@ -20,8 +20,20 @@ use Rattle.shapes.specs.Shapes.{shapeOf, startOf}
 use Rattle.checks.specs.Verdicts.{treeNumber, check-tree}
 use Rattle.checks.specs.Standing.{stands-whole}
 use Rattle.checks.specs.Shaping.{planShape, shape-plan}
-use Rattle.checks.specs.Describing.{Describes, Standing, nodes-some}
+use Rattle.checks.specs.Describing.{Described, Describes, Standing, nodes-some}
 use Rattle.checks.specs.declared.Node.{Node}
+use Rattle.checks.specs.declared.Root.{Root}
+
+-- what a byte string's plan is to a job: its number, and where that is 0 its count of nodes and its root's width
+pub data RootOf (s : List ℕ) : Root → Type 0 where
+  forNone : ((p : Plan) → bytes p ≡ s → ⊥) → RootOf s (record { number = 1; nodes = 0; width = 0 })
+  forRoot : {r : Root} (p : Plan) → bytes p ≡ s → r .number ≡ checkNumber p → (r .number ≡ 0 → (r .nodes ≡ nodes p) × (r .width ≡ width p))
+      → RootOf s r
+
+-- its number is the check's
+pub root-checks : {s : List ℕ} {r : Root} → RootOf s r → Checks s (r .number)
+root-checks (forNone n) = forNoPlan n
+root-checks {s} (forRoot p e q f) = subst (Checks s) (sym q) (forPlan p e)
 
 -- a string with a shape is a plan's, and the shape is the plan's
 record Planned (s : List ℕ) (h : Shape) : Type 0 where
@@ -45,30 +57,35 @@ module _ (s : List ℕ) (b : Bytes s) (h : Shape) (e : h ≡ shapeOf s) where
       }
 
   -- no shape: no plan's bytes
-  pub answer-1 : h .ok ≡ false → Checks s 1
+  pub root-none : h .ok ≡ false → RootOf s (record { number = 1; nodes = 0; width = 0 })
   unfolding planShape
-  answer-1 bad = pick (planOf s) refl (e ∙ shape-plan s)
+  root-none bad = pick (planOf s) refl (e ∙ shape-plan s)
     where
-      pick : (o : Option Plan) → planOf s ≡ o → h ≡ planShape o → Checks s 1
-      pick none q k = forNoPlan (no-plan s q)
+      pick : (o : Option Plan) → planOf s ≡ o → h ≡ planShape o → RootOf s (record { number = 1; nodes = 0; width = 0 })
+      pick none q k = forNone (no-plan s q)
       pick (some p) q k = absurd (let x : false ≡ true = sym bad ∙ ap (λ (z : Shape). z .ok) k in let z : _≡_ {A = ℕ} 0 1 = cc in omega arith)
 
   -- too many nodes, or too many tables
-  pub answer-nodes : h .ok ≡ true → 12 < h .nodes → Checks s 2
-  unfolding mostNodes
-  answer-nodes ok l =
-      let p : Planned s h = planned ok in
-      subst (Checks s)
-      (check-tree (p .plan) ∙ ap (λ (x : Bool). cond (x && leb (leaves (p .plan)) mostLeaves) (treeNumber (p .plan)) 2) (lt-leb (nodes (p .plan)) 12 (omega (arith, p .many))))
-      (forPlan (p .plan) (p .string))
+  abbrev TooMany : Type 0
+  TooMany = RootOf s (record { number = 2; nodes = 0; width = 0 })
 
-  pub answer-leaves : h .ok ≡ true → h .nodes ≤ 12 → 3 < h .leaves → Checks s 2
+  too-many : (p : Planned s h) → 2 ≡ checkNumber (p .plan) → TooMany
+  too-many p e = forRoot (p .plan) (p .string) e (λ z. absurd (omega arith))
+
+  pub root-nodes : h .ok ≡ true → 12 < h .nodes → TooMany
+  unfolding mostNodes
+  root-nodes ok l =
+      let p : Planned s h = planned ok in
+      let a : leb (nodes (p .plan)) 12 ≡ false = lt-leb (nodes (p .plan)) 12 (omega (arith, p .many)) in
+      too-many p (sym (check-tree (p .plan) ∙ rw a))
+
+  pub root-leaves : h .ok ≡ true → h .nodes ≤ 12 → 3 < h .leaves → TooMany
   unfolding mostNodes mostLeaves
-  answer-leaves ok n l =
+  root-leaves ok n l =
       let p : Planned s h = planned ok in
       let a : leb (nodes (p .plan)) 12 ≡ true = le-leb (nodes (p .plan)) 12 (omega (arith, p .many)) in
       let c : leb (leaves (p .plan)) 3 ≡ false = lt-leb (leaves (p .plan)) 3 (omega (arith, p .tables)) in
-      subst (Checks s) (check-tree (p .plan) ∙ rw (a, c)) (forPlan (p .plan) (p .string))
+      too-many p (sym (check-tree (p .plan) ∙ rw (a, c)))
 
   -- a string with a shape has a root, and the plan stands in it
   pub root-some : h .ok ≡ true → 0 < h .nodes
@@ -87,13 +104,13 @@ module _ (s : List ℕ) (b : Bytes s) (h : Shape) (e : h ≡ shapeOf s) where
         told = told;
       }
 
-  -- the number of the root's node
-  pub answer-root : h .ok ≡ true → h .nodes ≤ 12 → h .leaves ≤ 3 → (r : Node) → Describes s (h .nodes - 1) r → Checks s (r .number)
+  -- the node of the root
+  pub root-described : h .ok ≡ true → h .nodes ≤ 12 → h .leaves ≤ 3 → (r : Node) → Describes s (h .nodes - 1) r
+      → RootOf s (record { number = r .number; nodes = h .nodes; width = r .width })
   unfolding mostNodes mostLeaves
-  answer-root ok n l r d =
+  root-described ok n l r d =
       let p : Planned s h = planned ok in
       let a : leb (nodes (p .plan)) 12 ≡ true = le-leb (nodes (p .plan)) 12 (omega (arith, p .many)) in
       let c : leb (leaves (p .plan)) 3 ≡ true = le-leb (leaves (p .plan)) 3 (omega (arith, p .tables)) in
-      let q : r .number ≡ treeNumber (p .plan) =
-      d (p .plan) 0 (omega (arith, p .many, nodes-some (p .plan))) (stands-whole (p .plan) s (p .string)) .number in
-      subst (Checks s) (check-tree (p .plan) ∙ rw (a, c) (sym q)) (forPlan (p .plan) (p .string))
+      let k : Described (p .plan) 0 r = d (p .plan) 0 (omega (arith, p .many, nodes-some (p .plan))) (stands-whole (p .plan) s (p .string)) in
+      forRoot (p .plan) (p .string) (k .number ∙ sym (check-tree (p .plan) ∙ rw (a, c))) (λ z. (p .many, k .wide))

@@ -5,6 +5,7 @@ ghost use lib.ListN.{length};
 ghost use Rattle.meaning.specs.Check.{Checks};
 ghost use Rattle.node_bytes.specs.Nodes.{joinSize, groupSize};
 ghost use Rattle.checks.specs.Verdicts.{lesser, verdict};
+ghost use Rattle.checks.specs.Answering.{RootOf};
 ghost use Rattle.checks.specs.Describing.{Standing, Describes, DescribesJoin, DescribesGroup, DescribesTable};
 
 // What a node's parent needs of it: the number of its subtree, its width and kinds, the number of its subtree's first node,
@@ -125,21 +126,52 @@ fn describe(s: &[u8], starts: &[usize; 12], n: usize) -> Node
     join_node(s, at, left, right)
 }
 
+// What a byte string's plan is to a job: its number, and where that is 0 its count of nodes and its root's width.
+pub struct Root {
+    pub number: u32,
+    pub nodes: usize,
+    pub width: usize,
+}
+
+// The number, node count and width of a byte string's plan.
+pub fn root_of(s: &[u8]) -> Root
+    ensures { λ r. ⌜ RootOf (now (s .entry)) r ⌝ }
+{
+    let shape = shapes::shape_of(s);
+    if !shape.ok {
+        return Root {
+            number: 1,
+            nodes: 0,
+            width: 0,
+        };
+    }
+    if 12 < shape.nodes {
+        return Root {
+            number: 2,
+            nodes: 0,
+            width: 0,
+        };
+    }
+    if 3 < shape.leaves {
+        return Root {
+            number: 2,
+            nodes: 0,
+            width: 0,
+        };
+    }
+    let starts = shapes::starts(s);
+    let root = describe(s, &starts, shape.nodes - 1);
+    Root {
+        number: root.number,
+        nodes: shape.nodes,
+        width: root.width,
+    }
+}
+
 // The number of a byte string: 0 where it is a plan's that passes, else the first of 1, 2, 3, 4 that holds.
 pub fn check(s: &[u8]) -> u32
     ensures { λ r. ⌜ Checks (now (s .entry)) r ⌝ }
 {
-    let shape = shapes::shape_of(s);
-    if !shape.ok {
-        return 1;
-    }
-    if 12 < shape.nodes {
-        return 2;
-    }
-    if 3 < shape.leaves {
-        return 2;
-    }
-    let starts = shapes::starts(s);
-    let root = describe(s, &starts, shape.nodes - 1);
+    let root = root_of(s);
     root.number
 }

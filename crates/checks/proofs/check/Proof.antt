@@ -1,43 +1,14 @@
--- `checks::check` answers by the shape of the string, and where that is a plan's within the counts, by the node of its root.
+-- `checks::check` is the number of `root_of`.
 use borrow.Author.Needs.{needs}
-use borrow.Author.Tests.{not-true, not-false}
-use Rattle.checks.specs.Answering.{answer-1, answer-nodes, answer-leaves, root-some, root-standing, answer-root}
+use Rattle.checks.specs.Answering.{root-checks}
 use Rattle.checks.proofs.check.Statement.{statement}
 use Rattle.checks.proofs.check.Tie as tie
 
-shape-of-requires : tie.Need-shape-of-requires
-shape-of-requires c κs = search needs
+root-of-requires : tie.Need-root-of-requires
+root-of-requires c κs = search needs
 
 returns : tie.Need-returns
-returns c = answer-1 _ (λ i. c .before .before .before .shared-slice-known .given i .fits) (c .before .before .shape-of .result) (c .before .before .shape-of .ensures) (not-true _ (c .if1 .taken))
-
-returns-2 : tie.Need-returns-2
-returns-2 c = answer-nodes _ (λ i. c .before .before .before .before .before .shared-slice-known .given i .fits) (c .before .before .before .before .shape-of .result) (c .before .before .before .before .shape-of .ensures) (not-false _ (c .before .before .if1 .left)) (c .if2 .taken)
-
-returns-3 : tie.Need-returns-3
-returns-3 c = answer-leaves _ (λ i. c .before .before .before .before .before .before .before .shared-slice-known .given i .fits) (c .before .before .before .before .before .before .shape-of .result) (c .before .before .before .before .before .before .shape-of .ensures) (not-false _ (c .before .before .before .before .if1 .left)) (c .before .before .if2 .left) (c .if3 .taken)
-
-starts-requires : tie.Need-starts-requires
-starts-requires c κs = search needs
-
-sub-describe : tie.Need-sub-describe
-sub-describe c = root-some _ (λ i. c .before .before .before .before .before .before .before .before .before .before .shared-slice-known .given i .fits) (c .before .before .before .before .before .before .before .before .before .shape-of .result) (c .before .before .before .before .before .before .before .before .before .shape-of .ensures) (not-false _ (c .before .before .before .before .before .before .before .if1 .left))
-
-describe-requires : tie.Need-describe-requires
-describe-requires c κs = root-standing _ (λ i. c .before .before .before .before .before .before .before .before .before .before .shared-slice-known .given i .fits) (c .before .before .before .before .before .before .before .before .before .shape-of .result) (c .before .before .before .before .before .before .before .before .before .shape-of .ensures) _ (c .before .before .starts .ensures) (not-false _ (c .before .before .before .before .before .before .before .if1 .left)) (c .before .before .before .before .before .if2 .left)
-
-returns-4 : tie.Need-returns-4
-returns-4 c = answer-root _ (λ i. c .before .before .before .before .before .before .before .before .before .before .before .shared-slice-known .given i .fits) (c .before .before .before .before .before .before .before .before .before .before .shape-of .result) (c .before .before .before .before .before .before .before .before .before .before .shape-of .ensures) (not-false _ (c .before .before .before .before .before .before .before .before .if1 .left)) (c .before .before .before .before .before .before .if2 .left) (c .before .before .before .before .if3 .left) (c .describe .result) (c .describe .ensures)
+returns c = root-checks (c .root-of .ensures)
 
 pub check-spec : {M : Type 1} → statement M
-check-spec =
-    tie.close
-    (tie.spec
-    shape-of-requires
-    returns
-    returns-2
-    returns-3
-    starts-requires
-    sub-describe
-    describe-requires
-    returns-4)
+check-spec = tie.close (tie.spec root-of-requires returns)

@@ -1,0 +1,1 @@
+// No code: proofs/ shows that a grouping is the runs of its sorted rows.
