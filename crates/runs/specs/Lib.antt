@@ -1,3 +1,4 @@
 pub mod Leaves
 pub mod Room
 pub mod Copies
+pub mod Nodes
