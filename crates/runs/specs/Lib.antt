@@ -2,3 +2,4 @@ pub mod Leaves
 pub mod Room
 pub mod Copies
 pub mod Nodes
+pub mod Descending
