@@ -3,3 +3,4 @@ pub mod Room
 pub mod Copies
 pub mod Nodes
 pub mod Descending
+pub mod Answering
