@@ -8,7 +8,7 @@ use borrow.Author.Tests.{not-true}
 use Rattle.meaning.specs.Cells.{eqZ}
 use Rattle.meaning.specs.Aggregating.{into, ascending}
 use Rattle.numbers.specs.Integers.{lt-irrefl, nlt-trans, nlt-lt-trans}
-use Rattle.running.specs.Same.{eqZ-refl}
+use Rattle.numbers.specs.Same.{eqZ-refl}
 
 -- no value is below the one before it, where x stands before the first
 unfoldable pub upwardsFrom : ℤ → List ℤ → Bool

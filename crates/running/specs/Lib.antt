@@ -1,6 +1,5 @@
 -- States is what the contracts say, Laws what a caller uses; the others lead from one to the other.
 pub mod States
-pub mod Same
 pub mod Steps
 pub mod Ascent
 pub mod Values

@@ -8,7 +8,7 @@ use Rattle.numbers.specs.Integers.{false-true}
 use Rattle.running.specs.declared.Running.{Running}
 use Rattle.running.specs.declared.Finished.{Finished}
 use Rattle.running.specs.States.{distinctOf, repeatsOf, takesOf, amountOf, combineOf, takeOf, addTo, sizeOf, Room, mergeOf, emptyMarkOf, finishOf}
-use Rattle.running.specs.Same.{eqZ-true, eq-eqZ}
+use Rattle.numbers.specs.Same.{eqZ-true, eq-eqZ}
 
 -- what the test of a repeated value says where it is met, and where not
 repeats-cases : (l v : ℤ) (a b d : Bool) → eqZ l v ≡ b → (a && (b && d)) ≡ true → (a ≡ true) × (l ≡ v) × (d ≡ true)

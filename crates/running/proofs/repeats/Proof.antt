@@ -6,7 +6,7 @@ use mir.Syntax.{w64}
 use mir.Val.{ofZ}
 use Rattle.numbers.specs.Integers.{ofZ-inj}
 use Rattle.running.specs.States.{repeatsOf}
-use Rattle.running.specs.Same.{eq-eqZ, ne-eqZ}
+use Rattle.numbers.specs.Same.{eq-eqZ, ne-eqZ}
 use Rattle.running.proofs.repeats.Statement.{statement}
 use Rattle.running.proofs.repeats.Tie as tie
 
