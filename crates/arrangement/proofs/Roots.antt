@@ -102,7 +102,7 @@ kind-no-group inner = refl
 kind-no-group (leftOuter dr) = refl
 kind-no-group (fullOuter dl dr) = refl
 
-kind-most : (j : Join) → leb (joinNumber j) 3 ≡ true
+pub kind-most : (j : Join) → leb (joinNumber j) 3 ≡ true
 unfolding joinNumber
 kind-most inner = refl
 kind-most (leftOuter dr) = refl

@@ -27,14 +27,14 @@ use Rattle.checks.specs.Joins.{kinds-wide, map-append}
 use Rattle.checks.specs.declared.Node.{Node}
 
 -- a test of every node tests the root
-root-of : (f : Plan → Bool) (p : Plan) → everyNode f p ≡ true → f p ≡ true
+pub root-of : (f : Plan → Bool) (p : Plan) → everyNode f p ≡ true → f p ≡ true
 unfolding everyNode
 root-of f (leaf t w) e = e
 root-of f (join j ps l r) e = and-left (f (join j ps l r)) (everyNode f l && everyNode f r) e
 root-of f (group cols aggs i) e = and-left (f (group cols aggs i)) (everyNode f i) e
 
 -- a node that passes 2 has at least one column, and 16 at the most
-some-columns : (p : Plan) → nodeWithin p ≡ true → (0 < width p) × (width p ≤ 16)
+pub some-columns : (p : Plan) → nodeWithin p ≡ true → (0 < width p) × (width p ≤ 16)
 unfolding nodeWithin upTo mostColumns
 some-columns p e =
     let u : (leb 1 (width p) && leb (width p) 16) ≡ true = and-left (leb 1 (width p) && leb (width p) 16) (pairsWithin p) e in

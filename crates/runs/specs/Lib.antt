@@ -4,3 +4,4 @@ pub mod Copies
 pub mod Nodes
 pub mod Descending
 pub mod Answering
+pub mod Finishing
