@@ -5,3 +5,4 @@ pub mod Nodes
 pub mod Descending
 pub mod Answering
 pub mod Finishing
+pub mod Amounts
