@@ -6,3 +6,6 @@ pub mod Descending
 pub mod Answering
 pub mod Finishing
 pub mod Amounts
+pub mod Joins
+pub mod Groupings
+pub mod Ways
