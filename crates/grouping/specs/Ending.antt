@@ -1,5 +1,5 @@
 -- Where a run of rows with one key ends.
-use mathlib.Core.Path.{_≡_, refl, sym, ap, subst, _∙_}
+use mathlib.Core.Path.{_≡_, sym, _∙_}
 use mathlib.Core.Bool.{Bool, true, false}
 use mathlib.Core.List.{List, []}
 use Prim.Native.Nat.{ℕ, _+_, _*_, _<_, _≤_}
@@ -7,7 +7,7 @@ use native.Mathlib.Decide.{decLt}
 use native.Mathlib.Omega.{arith}
 use lib.ListN.{length, getD}
 use lib.IntN.{ℤ}
-use Rattle.meaning.specs.Plans.{Row, Table}
+use Rattle.meaning.specs.Plans.{Table}
 use Rattle.meaning.specs.Grouping.{key, sameKey}
 use Rattle.meaning.specs.Running.{rowsFrom}
 use Rattle.regions.specs.Holding.{Held, HeldRows, held-cells-fit, held-marks-fit, row-held}

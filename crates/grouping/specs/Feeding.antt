@@ -1,23 +1,20 @@
 -- A running aggregate that is fed with the rows of an area, in order.
 use mathlib.Core.Path.{_≡_, refl, sym, ap, subst, _∙_}
-use mathlib.Core.Bool.{Bool, true, false}
 use mathlib.Core.List.{List, [], _∷_, _++_, append-assoc, append-nil}
 use Prim.Native.Nat.{ℕ, zero, suc, _+_, _-_, _*_, _<_, _≤_, _^_}
-use native.Mathlib.Nat.{mul-le-mul-right}
 use native.Mathlib.Omega.{arith}
 use lib.Dec.{eqb, eqb→eq}
 use lib.ListN.{length, getD}
 use lib.IntN.{ℤ, pos}
-use Rattle.meaning.specs.Cells.{Cell, null}
 use Rattle.meaning.specs.Plans.{Row, Table, Name, Aggregate, nameOf, columnsRead}
 use Rattle.meaning.specs.Joining.{cell}
-use Rattle.meaning.specs.Aggregating.{taken, valuesOf}
+use Rattle.meaning.specs.Aggregating.{valuesOf}
 use Rattle.meaning.specs.Arrangement.{nameNumber}
-use Rattle.meaning.specs.Running.{cellFrom, cellsFrom, rowsFrom, cellNumber, cellMark}
+use Rattle.meaning.specs.Running.{cellsFrom, rowsFrom, cellNumber, cellMark}
 use Rattle.rules.specs.Below.{below}
 use Rattle.rules.specs.Lines.{nameAt, names}
 use Rattle.regions.specs.Holding.{Held, HeldRows, held-number, held-mark, held-cells-fit, held-marks-fit, row-held}
-use Rattle.regions.specs.Reading.{cells-long, cells-at, rows-long, row-at}
+use Rattle.regions.specs.Reading.{cells-long, rows-long, row-at}
 use Rattle.running.specs.declared.Running.{Running}
 use Rattle.running.specs.States.{addTo, startOf, Room}
 use Rattle.running.specs.Values.{Rises, rises-front}

@@ -1,7 +1,7 @@
 -- What it is that a grouping's rows are written: what is asked for, what is done, and the law of a loop that goes from run to run.
 use mathlib.Core.Path.{_≡_, refl, sym, ap, subst, _∙_}
-use mathlib.Core.Bool.{Bool, true, false, _&&_}
-use mathlib.Core.Logic.{_⊎_, inl, inr}
+use mathlib.Core.Bool.{Bool, true}
+use mathlib.Core.Logic.{inl, inr}
 use mathlib.Core.List.{List, [], _∷_, _++_, map, append-assoc, append-nil}
 use Prim.Native.Nat.{ℕ, zero, suc, _+_, _-_, _*_, _<_, _≤_, _^_}
 use native.Mathlib.Nat.{mul-le-mul, mul-le-mul-right, mul-le-mul-left}
@@ -16,13 +16,13 @@ use Rattle.meaning.specs.Aggregating.{valuesOf, aggregate}
 use Rattle.meaning.specs.Grouping.{key, groupRow, groupRows}
 use Rattle.meaning.specs.Check.{all, columnsThere}
 use Rattle.meaning.specs.Running.{cellsFrom, rowsFrom}
-use Rattle.node_bytes.specs.Rows.{and-left, and-right, every, listAt, length-list}
+use Rattle.node_bytes.specs.Rows.{and-left, and-right, every, length-list}
 use Rattle.node_bytes.specs.Nodes.{byte, aggregateGood, aggregatesGood, groupSize, groupGood}
 use Rattle.arrangement.proofs.Items.{aggregateAt}
 use Rattle.arrangement.proofs.Roots.{columnsFrom, aggregatesFrom}
 use Rattle.ranges.proofs.Lists.{Each, each-at, each-to, all-each}
 use Rattle.regions.specs.Keeping.{kept-all}
-use Rattle.regions.specs.Holding.{Held, HeldRows, Untouched, held-to, rows-none, rows-more}
+use Rattle.regions.specs.Holding.{Held, HeldRows, Untouched, rows-none, rows-more}
 use Rattle.regions.specs.Reading.{rows-long, row-at}
 use Rattle.running.specs.Rows.{values-append}
 use Rattle.running.specs.Sizes.{mostOf, most-append}
@@ -33,7 +33,7 @@ use Rattle.groups.proofs.Grouped.{runsOf-groupRows}
 use Rattle.grouping.specs.Picking.{getD-list, key-long}
 use Rattle.grouping.specs.Feeding.{rows-append}
 use Rattle.grouping.specs.Sorted.{sort-stable, sort-ascends, sort-most}
-use Rattle.grouping.specs.Single.{scratchFor, scratch-fits, AggregateFits, first-here, second-here, RunRoom}
+use Rattle.grouping.specs.Single.{scratchFor, scratch-fits, AggregateFits, first-here, second-here}
 use Rattle.grouping.specs.Writing.{rows-stay, rows-same, RowRoom, RowDone}
 use Rattle.grouping.specs.Ending.{EndRoom}
 

@@ -7,7 +7,7 @@ use native.Mathlib.Omega.{arith}
 use lib.ListN.{length, getD, set, length-set, length-map}
 use lib.Seq.{getD-set-same, getD-set-other}
 use lib.IntN.{ℤ, pos}
-use Rattle.meaning.specs.Cells.{Cell, null}
+use Rattle.meaning.specs.Cells.{null}
 use Rattle.meaning.specs.Plans.{Row, Table}
 use Rattle.meaning.specs.Joining.{cell}
 use Rattle.meaning.specs.Grouping.{key}

@@ -1,24 +1,24 @@
 -- One aggregate over the rows of a run: a distinct one over more than one row is fed with a sorted copy of its column.
-use mathlib.Core.Path.{_≡_, refl, sym, ap, subst, _∙_}
-use mathlib.Core.Bool.{Bool, true, false, not, cond, _&&_, _||_}
-use mathlib.Core.Logic.{_⊎_, inl, inr}
+use mathlib.Core.Path.{_≡_, refl, sym, ap, _∙_}
+use mathlib.Core.Bool.{Bool, true, false, not, cond, _&&_}
+use mathlib.Core.Logic.{inl, inr}
 use mathlib.Core.List.{List, [], _∷_, _++_}
-use Prim.Native.Nat.{ℕ, zero, suc, _+_, _*_, _<_, _≤_, _^_}
+use Prim.Native.Nat.{ℕ, _+_, _*_, _<_, _≤_, _^_}
 use native.Mathlib.Nat.{mul-le-mul-right}
 use native.Mathlib.Omega.{arith}
 use lib.Dec.{ltb, lit<}
 use lib.ListN.{length, getD}
-use lib.IntN.{ℤ, pos}
+use lib.IntN.{ℤ}
 use borrow.Author.Tests.{ltb-true, ltb-false, not-true}
 use Rattle.meaning.specs.Cells.{Cell}
-use Rattle.meaning.specs.Plans.{Row, Table, Name, Aggregate, rows, count, sum, least, greatest, distinctSum, distinctCount, weightedSum, weightedCount, nameOf, columnsRead}
+use Rattle.meaning.specs.Plans.{Table, Name, Aggregate, rows, count, sum, least, greatest, distinctSum, distinctCount, weightedSum, weightedCount, nameOf, columnsRead}
 use Rattle.meaning.specs.Joining.{cell}
-use Rattle.meaning.specs.Aggregating.{valuesOf, answer, aggregate}
+use Rattle.meaning.specs.Aggregating.{valuesOf, aggregate}
 use Rattle.meaning.specs.Arrangement.{nameNumber, twoPlaces, aggregateBytes}
 use Rattle.meaning.specs.Running.{rowsFrom, cellNumber, cellMark}
 use Rattle.numbers.specs.Integers.{false-true}
-use Rattle.rules.specs.Lines.{nameAt, nameAt-number, entryOf}
-use Rattle.node_bytes.specs.Holding.{Holds, holds-head}
+use Rattle.rules.specs.Lines.{nameAt, nameAt-number}
+use Rattle.node_bytes.specs.Holding.{holds-head}
 use Rattle.node_bytes.specs.Widths.{aggregate-wide}
 use Rattle.node_bytes.specs.Rows.{and-left, and-right, listAt}
 use Rattle.node_bytes.specs.Nodes.{byte, aggregateGood}
@@ -30,10 +30,10 @@ use Rattle.running.specs.declared.Running.{Running}
 use Rattle.running.specs.States.{distinctOf, finishOf}
 use Rattle.running.specs.Ascent.{upwardsFrom, upwards}
 use Rattle.running.specs.Values.{isDistinct, Rises}
-use Rattle.running.specs.Rows.{takenBy, Gives, nothing, one, gives}
+use Rattle.running.specs.Rows.{Gives, nothing, one, gives}
 use Rattle.running.specs.Sizes.{mostOf}
 use Rattle.running.specs.Laws.{Took, took-finish}
-use Rattle.sorting.specs.Sorting.{SortOf, SortRoom, SortDone, Spared}
+use Rattle.sorting.specs.Sorting.{SortOf, SortRoom, SortDone}
 use Rattle.sorting.specs.Standing.{untouched-then, untouched-wider}
 use Rattle.grouping.specs.Picking.{PickRoom, PickDone, columnPlace, columnOf, column-long, column-held, picked-untouched}
 use Rattle.grouping.specs.Feeding.{valuesBy, values-by, name-number, FeedRoom, Fed}

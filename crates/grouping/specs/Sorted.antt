@@ -1,13 +1,12 @@
 -- Rows that are stably sorted: what an aggregate takes of them is as much, and of a column sorted by itself a distinct one's values ascend.
-use mathlib.Core.Path.{_≡_, refl, sym, ap, subst, _∙_}
-use mathlib.Core.Bool.{Bool, true, false, not, cond, _&&_}
-use mathlib.Core.List.{List, [], _∷_, _++_, append-nil}
-use Prim.Native.Nat.{ℕ, zero, suc, _+_, _<_, _≤_, _^_}
+use mathlib.Core.Path.{_≡_, refl, sym, ap, _∙_}
+use mathlib.Core.Bool.{Bool, true, false, not, cond}
+use mathlib.Core.List.{List, [], _∷_, _++_}
+use Prim.Native.Nat.{ℕ, zero, suc, _+_, _≤_}
 use native.Mathlib.Omega.{arith}
 use lib.ListN.{length, getD}
-use lib.IntN.{ℤ, pos}
+use lib.IntN.{ℤ}
 use lib.Signed.{ltZ}
-use Rattle.meaning.specs.Cells.{Cell}
 use Rattle.meaning.specs.Plans.{Row, Table, Name, Aggregate, rows, count, sum, least, greatest, distinctSum, distinctCount, weightedSum, weightedCount, nameOf, columnsRead}
 use Rattle.meaning.specs.Joining.{cell, keep}
 use Rattle.meaning.specs.Aggregating.{value, taken, valuesOf, answer, aggregate}

@@ -1,12 +1,12 @@
 -- A group's row written into an area: the key, then each aggregate behind the ones before.
-use mathlib.Core.Path.{_≡_, refl, sym, ap, subst, _∙_}
-use mathlib.Core.Logic.{_⊎_, inl, inr}
+use mathlib.Core.Path.{_≡_, refl, sym, ap, _∙_}
+use mathlib.Core.Logic.{inl}
 use mathlib.Core.List.{List, [], _∷_, _++_, map}
 use Prim.Native.Nat.{ℕ, zero, suc, _+_, _*_, _<_, _≤_}
 use native.Mathlib.Nat.{mul-le-mul-right}
 use native.Mathlib.Omega.{arith}
-use lib.ListN.{length, getD, set, length-set, length-map}
-use lib.Seq.{getD-set-same, getD-set-other}
+use lib.ListN.{length, getD, set, length-map}
+use lib.Seq.{getD-set-same}
 use lib.IntN.{ℤ, pos}
 use Rattle.meaning.specs.Cells.{Cell}
 use Rattle.meaning.specs.Plans.{Row, Table, Aggregate}
@@ -17,14 +17,14 @@ use Rattle.node_bytes.specs.Rows.{listAt, length-list, list-more}
 use Rattle.node_bytes.specs.Nodes.{byte, groupSize}
 use Rattle.arrangement.proofs.Items.{aggregateAt}
 use Rattle.arrangement.proofs.Roots.{columnsFrom, aggregatesFrom}
-use Rattle.regions.specs.Keeping.{Kept, kept-then, kept-wider, kept-set}
-use Rattle.regions.specs.Holding.{Held, HeldRows, Untouched, held-both, held-to, held-below, held-cells-fit, held-marks-fit, row-held}
+use Rattle.regions.specs.Keeping.{kept-then, kept-wider, kept-set}
+use Rattle.regions.specs.Holding.{Held, HeldRows, Untouched, held-both, held-to, held-below, row-held}
 use Rattle.regions.specs.Reading.{rows-long, rows-read}
 use Rattle.running.specs.declared.Running.{Running}
 use Rattle.running.specs.declared.Finished.{Finished}
 use Rattle.running.specs.States.{finishOf}
 use Rattle.sorting.specs.Standing.{untouched-then, untouched-wider, rows-apart}
-use Rattle.grouping.specs.Picking.{PickRoom, PickDone, KeyRoom, keyPlace, key-held, key-long, picked-untouched}
+use Rattle.grouping.specs.Picking.{PickDone, KeyRoom, keyPlace, key-held, key-long, picked-untouched}
 use Rattle.grouping.specs.Single.{scratchFor, AggregateFits, RunRoom, StateRoom, StateDone}
 
 -- ---- rows below what is written

@@ -1,15 +1,14 @@
 // The rows of a grouping, from its input's rows in a lent area.
 ghost use mathlib.Core.Path.{_≡_};
-ghost use Prim.Native.Nat.{_+_};
+ghost use Rattle.meaning.specs.Running.{rowsFrom};
+ghost use Rattle.sorting.specs.Sorting.{columns};
+ghost use Rattle.groups.proofs.Runs.{RunEnd};
 ghost use Rattle.grouping.specs.Picking.{PickRoom, PickDone, KeyRoom, keyPlace, columnPlace};
 ghost use Rattle.grouping.specs.Feeding.{FeedRoom, Fed};
 ghost use Rattle.grouping.specs.Single.{needsOrder, StateRoom, StateDone};
-ghost use Rattle.groups.proofs.Runs.{RunEnd};
-ghost use Rattle.meaning.specs.Running.{rowsFrom};
-ghost use Rattle.sorting.specs.Sorting.{columns};
+ghost use Rattle.grouping.specs.Writing.{CellRoom, CellDone, CellsRoom, CellsDone, RowRoom, RowDone};
 ghost use Rattle.grouping.specs.Ending.{EndRoom};
 ghost use Rattle.grouping.specs.Grouping.{GroupRoom, RunsDone, GroupDone};
-ghost use Rattle.grouping.specs.Writing.{CellRoom, CellDone, CellsRoom, CellsDone, RowRoom, RowDone};
 
 // Writes the listed columns of the row from a place on.
 fn write_key(
@@ -93,7 +92,7 @@ fn needs_order(name: u8, rows: usize) -> bool
     }
 }
 
-// The state of the aggregate at a place of the node over a run's rows. Its c names column 0 where it is distinct, so it sorts the copy.
+// The state of the aggregate at a place of the node over a run's rows; a distinct one's c is 0, which lists the copy's one column.
 fn run_state(
     s: &[u8],
     at: usize,

@@ -1,5 +1,5 @@
 -- `grouping::run_end` goes on while the rows have the first one's key.
-use Prim.Native.Nat.{_-_, _<_}
+use Prim.Native.Nat.{_-_}
 use borrow.Author.Tests.{not-true, not-false}
 use native.Mathlib.Omega.{arith}
 use Rattle.meaning.specs.Running.{rowsFrom}

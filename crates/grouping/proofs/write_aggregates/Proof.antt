@@ -1,7 +1,6 @@
 -- `grouping::write_aggregates` writes cell by cell: after j turns the first j aggregates stand in the row.
 use mathlib.Core.Path.{_≡_}
-use Prim.Native.Nat.{_+_, _-_, _≤_}
-use borrow.Author.Needs.{needs}
+use Prim.Native.Nat.{_-_, _≤_}
 use native.Mathlib.Omega.{arith}
 use Rattle.grouping.specs.Writing.{CellsDone, cells-none, cells-next, cells-more}
 use Rattle.grouping.proofs.write_aggregates.Statement.{statement}

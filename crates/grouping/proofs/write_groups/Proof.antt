@@ -1,5 +1,5 @@
 -- `grouping::write_groups` goes from run to run: what is written, with what the rows that are left come to, is all.
-use Prim.Native.Nat.{_+_, _-_, _≤_}
+use Prim.Native.Nat.{_-_}
 use borrow.Author.Needs.{needs}
 use native.Mathlib.Omega.{arith}
 use Rattle.grouping.specs.Grouping.{Grouped, node-inside, grouped-none, grouped-more, grouped-end, end-room, end-after, end-within, place-room, run-below, count-few, row-room}
