@@ -9,3 +9,4 @@ pub mod Amounts
 pub mod Joins
 pub mod Groupings
 pub mod Ways
+pub mod Outcomes
