@@ -2,12 +2,13 @@
 #define _POSIX_C_SOURCE 199309L
 
 #include "../include/firuvanta.h"
+#include "clock.h"
 #include "reader.h"
+#include "twelve_nodes.h"
 
 #include <stdio.h>
 #include <stdlib.h>
 #include <string.h>
-#include <time.h>
 
 enum { ROUNDS = 9, ROUND_MS = 20, MOST_BYTES = 1 << 20 };
 
@@ -15,32 +16,11 @@ typedef uint32_t checker(const uint8_t *plan, size_t length);
 
 /* Nodes of the worked depot's plan A, which the long strings repeat. */
 #define TABLE 0, 0, 3
-#define NULL_DEFAULT 1, 0, 0, 0, 0, 0, 0, 0, 0
-#define THREE_NULLS NULL_DEFAULT, NULL_DEFAULT, NULL_DEFAULT
 #define FULL_JOIN 3, 1, 3, 3, 1, 0, THREE_NULLS, THREE_NULLS
 #define GROUPING 4, 2, 4, 0, 4, 0, 0, 0, 2, 2, 0, 2, 5, 0, 1, 2, 0
 
 static const uint8_t ONE_TABLE[] = {TABLE};
 static const uint8_t UNIT[] = {TABLE, FULL_JOIN, GROUPING};
-
-/* Uses and releases grouped before a full join, a left join with a third table, and a chain of groupings. */
-static const uint8_t TWELVE_NODES[] = {
-    0, 0, 3,                                                     /* uses: depot, tile, age */
-    4, 2, 3, 0, 1, 2, 2, 0, 1, 2, 0, 0, 0, 0,                    /* sum and count of age, count of rows */
-    0, 1, 3,                                                     /* releases: tile, class, limit */
-    4, 2, 2, 0, 1, 3, 2, 0, 0, 0, 0,                             /* least limit, count of rows */
-    3, 1, 5, 4, 1, 0,                                            /* full join on tile */
-    THREE_NULLS, 0, 0, 0, 0, 0, 0, 0, 0, 0,                      /* left: null, null, null, 0, .. */
-    0, 2, 0, 0, 0, 0, 0, 0, 0,                                   /* .. 1 */
-    THREE_NULLS, 0, 2, 0, 0, 0, 0, 0, 0, 0,                      /* right: null, null, null, 1 */
-    4, 2, 4, 0, 6, 7, 2, 8, 8, 2, 8, 4, 7, 0, 6, 1, 0,           /* weighted sum, weighted count, greatest, distinct count */
-    0, 2, 4,                                                     /* a third table */
-    2, 1, 0, 4, 0, 0, THREE_NULLS, 0, 9, 0, 0, 0, 0, 0, 0, 0,    /* left join, right: null, null, null, -5 */
-    4, 3, 3, 0, 1, 6, 2, 2, 0, 2, 3, 0, 0, 0, 0,                 /* groupings up to the root */
-    4, 2, 3, 0, 1, 2, 3, 0, 2, 4, 0, 2, 5, 0,
-    4, 1, 2, 0, 2, 2, 0, 4, 3, 0,
-    4, 1, 2, 0, 3, 1, 0, 5, 2, 0,
-};
 
 static uint8_t string[MOST_BYTES];
 
@@ -58,12 +38,6 @@ static void build(size_t length, int trees) {
     memset(string + at, 0, length - at);
     string[at] = 4;
     string[at + 1] = (uint8_t)(length - at - 3);
-}
-
-static double now_ns(void) {
-    struct timespec t;
-    clock_gettime(CLOCK_MONOTONIC, &t);
-    return (double)t.tv_sec * 1e9 + (double)t.tv_nsec;
 }
 
 static double time_calls(checker *check, size_t length, long calls) {
@@ -111,7 +85,7 @@ static void long_rows(const char *input, int trees, uint32_t expected) {
 
 int main(void) {
     printf("input:    long strings repeat plan A's table, full join and grouping, %zu bytes\n", sizeof UNIT);
-    printf("unit:     nanoseconds a byte, the best of %d rounds of %d ms or more\n\n", ROUNDS, ROUND_MS);
+    printf("unit:     nanoseconds of processor time a byte, the best of %d rounds of %d ms or more\n\n", ROUNDS, ROUND_MS);
     puts("| input                      |   bytes | number |  check | C reader | ratio |");
     puts("|----------------------------|--------:|-------:|-------:|---------:|------:|");
     put(0, TWELVE_NODES, sizeof TWELVE_NODES);

@@ -10,14 +10,15 @@ MOST_PLAIN = 2_147_483_647
 FAR_DEFAULTS = [MOST_PLAIN + 1, -MOST_PLAIN - 1, 2**32, 2**32 + 1, 2**63 - 1, -(2**63)]
 # the largest field of one byte
 MOST = 255
+NOTHING_BROKEN = {2: 0, 3: 0, 4: 0}
 
 
 class Chance:
     """Choices that now and then break a rule; the plan has a rate of its own for each of refusals 2, 3 and 4."""
 
-    def __init__(self, random):
+    def __init__(self, random, rates):
         self.random = random
-        self.rates = {refusal: random.choice([0, 0, 0.02, 0.2]) for refusal in (2, 3, 4)}
+        self.rates = rates or {refusal: random.choice([0, 0, 0.02, 0.2]) for refusal in (2, 3, 4)}
 
     def breaks(self, refusal):
         return self.random.random() < self.rates[refusal]
@@ -115,8 +116,8 @@ def random_grouping(chance, tree):
     return {"op": "group", "cols": columns, "aggs": aggregates}, Tree(weights)
 
 
-def random_plan(random):
-    chance = Chance(random)
+def random_plan(random, rates=None):
+    chance = Chance(random, rates)
     leaves = chance.pick([1, 2, 2, 3, 3, 3], [4, 5, 6], 2)
     groupings = chance.pick(range(8), [8, 9, 10, 11, 12], 2)
     nodes, trees = [], []

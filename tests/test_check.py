@@ -10,7 +10,7 @@ import unittest
 
 import reader
 from arrange import node_bytes, plan_bytes
-from door import Fence, check_null
+from door import CheckDoor, check_null
 from random_plans import random_plan
 
 HERE = pathlib.Path(__file__).resolve().parent
@@ -44,11 +44,11 @@ def shown(string):
 class Compared(unittest.TestCase):
     @classmethod
     def setUpClass(cls):
-        cls.fence = Fence(2 * MIB)
+        cls.door = CheckDoor(2 * MIB)
 
     def give(self, string, expected):
         """Holds the door to a number."""
-        given = self.fence.check(string)
+        given = self.door.check(string)
         TALLY[expected] += 1
         if given != expected:
             self.fail(f"{given} given and {expected} expected for {shown(string)}")
@@ -98,13 +98,13 @@ class PlanA(Compared):
 class Lending(Compared):
     def test_no_bytes(self):
         self.assertEqual(check_null(), 1)
-        self.assertEqual(self.fence.check(b""), 1)
+        self.assertEqual(self.door.check(b""), 1)
         TALLY[1] += 2
 
     def test_read_only(self):
         """A string in pages that cannot be written gets the same number."""
         for case in VECTORS:
-            self.assertEqual(self.fence.check_read_only(plan_bytes(case["plan"])), case["expect"]["number"], case["id"])
+            self.assertEqual(self.door.check_read_only(plan_bytes(case["plan"])), case["expect"]["number"], case["id"])
             TALLY[case["expect"]["number"]] += 1
 
 
