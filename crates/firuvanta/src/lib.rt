@@ -2,8 +2,7 @@
 ghost use Rattle.meaning.specs.Check.{Checks};
 ghost use Rattle.meaning.specs.Running.{Runs};
 ghost use Rattle.tables.specs.Places.{lentOf};
-ghost use Rattle.runs.specs.Outcomes.{areasOf};
-ghost use Rattle.firuvanta.specs.Doors.{left};
+ghost use Rattle.runs.specs.Outcomes.{answered, areasOf};
 
 // The check of a plan's bytes.
 #[no_mangle]
@@ -27,7 +26,7 @@ pub extern "C" fn firuvanta_run(
     result_marks: &mut [u8],
     rows: &mut usize,
 ) -> u32
-    ensures { λ number. ⌜ Runs (lentOf (now (tables .entry)) (now (cells .entry)) (now (marks .entry))) limit (areasOf (now (work .entry)) (now («work_marks» .entry)) (now (result .entry)) (now («result_marks» .entry))) (now (plan .entry)) (left number (now (rows .exit)) (areasOf (now (work .exit)) (now («work_marks» .exit)) (now (result .exit)) (now («result_marks» .exit)))) ⌝ }
+    ensures { λ number. ⌜ Runs (lentOf (now (tables .entry)) (now (cells .entry)) (now (marks .entry))) limit (areasOf (now (work .entry)) (now («work_marks» .entry)) (now (result .entry)) (now («result_marks» .entry))) (now (plan .entry)) (answered number (now (rows .exit)) (areasOf (now (work .exit)) (now («work_marks» .exit)) (now (result .exit)) (now («result_marks» .exit)))) ⌝ }
 {
     let outcome = runs::run(
         plan,
