@@ -1,8 +1,6 @@
 // The doors that C calls: include/firuvanta.h documents them.
 ghost use Rattle.meaning.specs.Check.{Checks};
-ghost use Rattle.meaning.specs.Running.{Runs};
-ghost use Rattle.tables.specs.Places.{lentOf};
-ghost use Rattle.runs.specs.Outcomes.{answered, areasOf};
+ghost use Rattle.meaning.specs.Running.{Runs, lentOf, areasOf, answered};
 
 // The check of a plan's bytes.
 #[no_mangle]

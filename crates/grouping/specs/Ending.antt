@@ -12,7 +12,7 @@ use Rattle.meaning.specs.Grouping.{key, sameKey}
 use Rattle.meaning.specs.Running.{rowsFrom}
 use Rattle.regions.specs.Holding.{Held, HeldRows, held-cells-fit, held-marks-fit, row-held}
 use Rattle.regions.specs.Reading.{rows-long}
-use Rattle.sorting.specs.Order.{same-reflexive}
+use Rattle.groups.proofs.Keys.{key-equality}
 use Rattle.sorting.specs.Sorting.{Listed, columns, keyAt, KeysIn}
 use Rattle.sorting.specs.Standing.{key-read}
 use Rattle.groups.proofs.Runs.{RunEnd}
@@ -52,7 +52,7 @@ module _ {s : List ℕ} {from n : ℕ} {cells : List ℤ} {marks : List ℕ} {ba
   alike-one = record {
     after = omega arith;
     within = omega (arith, long, r .before);
-    alike = λ j a b. let q : j ≡ i = omega arith in rw q (same-reflexive (key (columns s from n) (getD u i [])));
+    alike = λ j a b. let q : j ≡ i = omega arith in rw q (key-equality .self (key (columns s from n) (getD u i [])));
   }
 
   module _ (e : ℕ) (a : Alike (columns s from n) u i e) where

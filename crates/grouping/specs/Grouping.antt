@@ -27,7 +27,7 @@ use Rattle.regions.specs.Reading.{rows-long, row-at}
 use Rattle.running.specs.Rows.{values-append}
 use Rattle.running.specs.Sizes.{mostOf, most-append}
 use Rattle.sorting.specs.Sorting.{Listed, SortRoom, SortDone}
-use Rattle.sorting.specs.Standing.{untouched-then, untouched-wider, rows-front, rows-back, rows-apart, rows-to}
+use Rattle.regions.specs.Rows.{untouched-then, untouched-wider, rows-front, rows-back, rows-apart, rows-to}
 use Rattle.groups.proofs.Runs.{RunEnd, runsOf, rest, rest-none, rest-step, written-few}
 use Rattle.groups.proofs.Grouped.{runsOf-groupRows}
 use Rattle.grouping.specs.Picking.{getD-list, key-long}

@@ -34,7 +34,7 @@ use Rattle.running.specs.Rows.{Gives, nothing, one, gives}
 use Rattle.running.specs.Sizes.{mostOf}
 use Rattle.running.specs.Laws.{Took, took-finish}
 use Rattle.sorting.specs.Sorting.{SortOf, SortRoom, SortDone}
-use Rattle.sorting.specs.Standing.{untouched-then, untouched-wider}
+use Rattle.regions.specs.Rows.{untouched-then, untouched-wider}
 use Rattle.grouping.specs.Picking.{PickRoom, PickDone, columnPlace, columnOf, column-long, column-held, picked-untouched}
 use Rattle.grouping.specs.Feeding.{valuesBy, values-by, name-number, FeedRoom, Fed}
 use Rattle.grouping.specs.Sorted.{ByColumn, overColumn, by-column}

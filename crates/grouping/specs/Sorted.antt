@@ -18,7 +18,8 @@ use Rattle.running.specs.States.{distinctOf}
 use Rattle.running.specs.Ascent.{upwardsFrom, upwards}
 use Rattle.running.specs.Values.{isDistinct}
 use Rattle.running.specs.Sizes.{mostOf, most-append}
-use Rattle.sorting.specs.Order.{lower, same-reflexive}
+use Rattle.sorting.specs.Order.{lower}
+use Rattle.groups.proofs.Keys.{key-equality}
 use Rattle.sorting.specs.Sorting.{SortOf}
 use Rattle.sorting.specs.Sole.{ascends-at}
 use Rattle.groups.proofs.Orders.{Rises}
@@ -66,7 +67,7 @@ module _ (cols : List ℕ) (f : Row → ℕ) where
   some-row : (x : Row) (xs : Table) → groupOf cols (key cols x) (x ∷ xs) ≡ groupOf cols (key cols x) [] → ⊥
   unfolding groupOf keep
   some-row x xs e =
-      let z : suc (length (keep (λ (r : Row). sameKey (key cols r) (key cols x)) xs)) ≡ 0 = ap length (rw (same-reflexive (key cols x)) at e) in
+      let z : suc (length (keep (λ (r : Row). sameKey (key cols r) (key cols x)) xs)) ≡ 0 = ap length (rw (key-equality .self (key cols x)) at e) in
       omega arith
 
   without : (k : Row) (t u : Table) → Stable cols u t → Stable cols (keep (λ (r : Row). not (sameKey (key cols r) k)) u) (keep (λ (r : Row). not (sameKey (key cols r) k)) t)
@@ -77,7 +78,7 @@ module _ (cols : List ℕ) (f : Row → ℕ) where
 
   fewer : (x : Row) (xs : Table) → length (keep (λ (r : Row). not (sameKey (key cols r) (key cols x))) (x ∷ xs)) ≤ length xs
   unfolding keep
-  fewer x xs = rw (same-reflexive (key cols x)) (keep-few (λ (r : Row). not (sameKey (key cols r) (key cols x))) xs)
+  fewer x xs = rw (key-equality .self (key cols x)) (keep-few (λ (r : Row). not (sameKey (key cols r) (key cols x))) xs)
 
   no-rows : (u : Table) → Stable cols u [] → sumOf f u ≡ sumOf f []
   unfolding groupOf

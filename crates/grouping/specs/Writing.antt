@@ -23,7 +23,7 @@ use Rattle.regions.specs.Reading.{rows-long, rows-read}
 use Rattle.running.specs.declared.Running.{Running}
 use Rattle.running.specs.declared.Finished.{Finished}
 use Rattle.running.specs.States.{finishOf}
-use Rattle.sorting.specs.Standing.{untouched-then, untouched-wider, rows-apart}
+use Rattle.regions.specs.Rows.{untouched-then, untouched-wider, rows-apart}
 use Rattle.grouping.specs.Picking.{PickDone, KeyRoom, keyPlace, key-held, key-long, picked-untouched}
 use Rattle.grouping.specs.Single.{scratchFor, AggregateFits, RunRoom, StateRoom, StateDone}
 

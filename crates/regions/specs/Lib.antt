@@ -3,3 +3,4 @@ pub mod Copying
 pub mod Holding
 pub mod Reading
 pub mod Clearing
+pub mod Rows

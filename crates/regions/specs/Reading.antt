@@ -73,7 +73,7 @@ flat-rows c m w at (suc n) =
 
 -- ---- what is held is what is read
 
-number-mark : (x : Cell) → cellFrom (cellNumber x) (cellMark x) ≡ x
+pub number-mark : (x : Cell) → cellFrom (cellNumber x) (cellMark x) ≡ x
 unfolding cellFrom cellNumber cellMark
 number-mark null = refl
 number-mark (num z) = refl

@@ -1,7 +1,7 @@
 -- Tables as three numbers each in one lent list: width, rows and start.
 use mathlib.Core.Path.{_≡_, refl, sym, ap, _∙_}
 use mathlib.Core.Bool.{Bool, true, false, _&&_, or-false}
-use mathlib.Core.List.{List, []}
+use mathlib.Core.List.{List, [], _∷_}
 use Prim.Native.Nat.{ℕ, zero, suc, _+_, _-_, _*_, _/_, _^_, _<_, _≤_}
 use lib.Dec.{eqb, leb, ltb}
 use lib.ListN.{length, getD}
@@ -15,20 +15,12 @@ use native.Mathlib.Omega.{arith}
 use borrow.Author.Tests.{ltb-true, ltb-false, lt-ltb, le-ltb, leb-true, le-leb, lt-leb, eq-eqb, ne-eqb}
 use Rattle.meaning.specs.Limits.{mostRows, mostSize}
 use Rattle.meaning.specs.Cells.{eqZ}
-use Rattle.meaning.specs.Running.{Place, Lent, nowhere, cellRight, cellsRight, placeRight, insideRun, leafRight}
-use Rattle.node_bytes.specs.Rows.{and-left, and-right, every, listAt, length-list}
+use Rattle.meaning.specs.Running.{Place, placesIn, lentOf, nowhere, cellRight, cellsRight, placeRight, insideRun, leafRight}
+use Rattle.node_bytes.specs.Rows.{and-left, and-right, every}
 
 -- the table whose three numbers stand at a place
 unfoldable pub placeAt : List ℕ → ℕ → Place
 placeAt ns at = record { width = getD ns at 0; rows = getD ns (at + 1) 0; start = getD ns (at + 2) 0 }
-
--- all the tables of a list of numbers; a rest of one or two numbers is not looked at
-unfoldable pub placeIn : List ℕ → List Place
-placeIn ns = listAt (placeAt ns) 3 0 (length ns / 3)
-
--- what is lent to a run
-abbrev pub lentOf : List ℕ → List ℤ → List ℕ → Lent
-lentOf ns cells marks = record { tables = placeIn ns; cells = cells; marks = marks }
 
 -- n cells from a place on lie inside runs of these lengths
 unfoldable pub insideAt : ℕ → ℕ → ℕ → ℕ → Bool
@@ -37,7 +29,7 @@ insideAt start n cells marks = leb (start + n) cells && leb (start + n) marks
 -- 5 at a leaf that names a table with a width
 unfoldable pub tableRight : List ℕ → List ℤ → List ℕ → ℕ → ℕ → Bool
 tableRight ns cells marks name w =
-    ltb name (length (placeIn ns)) && placeRight (lentOf ns cells marks) w (getD (placeIn ns) name nowhere)
+    ltb name (length (placesIn ns)) && placeRight (lentOf ns cells marks) w (getD (placesIn ns) name nowhere)
 
 -- a comparison on the other side of a sum
 pub leb-room : (a n m : ℕ) → n ≤ m → leb a (m - n) ≡ leb (a + n) m
@@ -88,22 +80,27 @@ cells-every cells marks at (suc n) = ap (λ (b : Bool). cellRight (getD cells at
 
 -- ---- the table of a number
 
-list-getD : {A : Type 0} (g : ℕ → A) (k at n i : ℕ) (d : A) → i < n → getD (listAt g k at n) i d ≡ g (at + k * i)
-unfolding listAt
-list-getD g k at zero i d h = absurd (omega arith)
-list-getD g k at (suc n) zero d h = ap g (let q : at ≡ at + k * 0 = omega arith in q)
-list-getD g k at (suc n) (suc i) d h = list-getD g k (at + k) n i d (omega arith) ∙ ap g (let q : at + k + k * i ≡ at + k * suc i = omega arith in q)
+behind : (w r s : ℕ) (ns : List ℕ) (i j : ℕ) → j ≡ i + 3 → getD (w ∷ r ∷ s ∷ ns) j 0 ≡ getD ns i 0
+behind w r s ns i j e = ap (λ (k : ℕ). getD (w ∷ r ∷ s ∷ ns) k 0) (let q : j ≡ suc (suc (suc i)) = omega arith in q)
 
-pub placeIn-at : (ns : List ℕ) (k : ℕ) → k < length ns / 3 → getD (placeIn ns) k nowhere ≡ placeAt ns (3 * k)
-unfolding placeIn
-placeIn-at ns k h = each 0 (length ns / 3) k h ∙ ap (placeAt ns) (let q : 0 + 3 * k ≡ 3 * k = omega arith in q)
-  where
-    each : (at n k : ℕ) → k < n → getD (listAt (placeAt ns) 3 at n) k nowhere ≡ placeAt ns (at + 3 * k)
-    each at n k h = list-getD (placeAt ns) 3 at n k nowhere h
+pub places-at : (ns : List ℕ) (k : ℕ) → k < length ns / 3 → getD (placesIn ns) k nowhere ≡ placeAt ns (3 * k)
+unfolding placesIn placeAt
+places-at [] k h = absurd (omega arith)
+places-at (w ∷ []) k h = absurd (omega arith)
+places-at (w ∷ r ∷ []) k h = absurd (omega arith)
+places-at (w ∷ r ∷ s ∷ ns) zero h = refl
+places-at (w ∷ r ∷ s ∷ ns) (suc k) h =
+    let a : getD (w ∷ r ∷ s ∷ ns) (3 * suc k) 0 ≡ getD ns (3 * k) 0 = behind w r s ns (3 * k) (3 * suc k) (omega arith) in
+    let b : getD (w ∷ r ∷ s ∷ ns) (3 * suc k + 1) 0 ≡ getD ns (3 * k + 1) 0 = behind w r s ns (3 * k + 1) (3 * suc k + 1) (omega arith) in
+    let c : getD (w ∷ r ∷ s ∷ ns) (3 * suc k + 2) 0 ≡ getD ns (3 * k + 2) 0 = behind w r s ns (3 * k + 2) (3 * suc k + 2) (omega arith) in
+    places-at ns k (omega arith) ∙ cc
 
-pub places-long : (ns : List ℕ) → length (placeIn ns) ≡ length ns / 3
-unfolding placeIn
-places-long ns = length-list (placeAt ns) 3 0 (length ns / 3)
+pub places-long : (ns : List ℕ) → length (placesIn ns) ≡ length ns / 3
+unfolding placesIn
+places-long [] = refl
+places-long (w ∷ []) = refl
+places-long (w ∷ r ∷ []) = refl
+places-long (w ∷ r ∷ s ∷ ns) = omega (arith, places-long ns)
 
 pub small-product : (a b : ℕ) → a < 256 → b ≤ 1024 → a * b ≤ 262144
 small-product a b h k = let l : a ≤ 256 = omega arith in let q : a * b ≤ 256 * 1024 = mul-le-mul l k in omega arith
@@ -111,16 +108,16 @@ small-product a b h k = let l : a ≤ 256 = omega arith in let q : a * b ≤ 256
 -- how a table of a number comes out, at each test
 module _ (ns : List ℕ) (cells : List ℤ) (marks : List ℕ) (name w : ℕ) where
   pub table-missing : length ns / 3 ≤ name → false ≡ tableRight ns cells marks name w
-  unfolding tableRight placeIn
-  table-missing h = simp (length-list (placeAt ns) 3 0 (length ns / 3), le-ltb name (length ns / 3) h)
+  unfolding tableRight
+  table-missing h = simp (places-long ns, le-ltb name (length ns / 3) h)
 
   module _ (there : name < length ns / 3) where
     by-place : placeRight (lentOf ns cells marks) w (placeAt ns (3 * name)) ≡ tableRight ns cells marks name w
     unfolding tableRight
     by-place =
-        let long : length (placeIn ns) ≡ length ns / 3 = places-long ns in
-        let l : name < length (placeIn ns) = omega arith in
-        simp (lt-ltb name (length (placeIn ns)) l, placeIn-at ns name there)
+        let long : length (placesIn ns) ≡ length ns / 3 = places-long ns in
+        let l : name < length (placesIn ns) = omega arith in
+        simp (lt-ltb name (length (placesIn ns)) l, places-at ns name there)
 
     pub width-other : (getD ns (3 * name) 0 ≡ w → ⊥) → false ≡ tableRight ns cells marks name w
     unfolding placeRight placeAt

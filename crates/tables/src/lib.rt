@@ -3,7 +3,7 @@ ghost use mathlib.Core.Path.{_≡_};
 ghost use Prim.Native.Nat.{_+_, _*_, _<_, _≤_};
 ghost use lib.ListN.{length, getD};
 ghost use Rattle.meaning.specs.Running.{cellRight, cellsRight};
-ghost use Rattle.tables.specs.Places.{placeIn, insideAt, tableRight};
+ghost use Rattle.tables.specs.Places.{insideAt, tableRight};
 
 // Whether a cell and its mark are a table's: present and in range, or null with number 0.
 fn cell_right(cell: i64, mark: u8) -> bool
