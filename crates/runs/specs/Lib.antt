@@ -2,6 +2,7 @@ pub mod Leaves
 pub mod Room
 pub mod Copies
 pub mod Nodes
+pub mod Inputs
 pub mod Descending
 pub mod Answering
 pub mod Finishing
