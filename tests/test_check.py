@@ -1,21 +1,17 @@
 """The check's door against the vectors, and against the reader on strings that are near a plan's and far from it."""
 
 import collections
-import faulthandler
-import json
-import pathlib
 import random
 import re
 import unittest
 
 import reader
 from arrange import node_bytes, plan_bytes
+from cases import HERE, SEED, Tally, vectors
 from door import CheckDoor, check_null
 from random_plans import random_plan
 
-HERE = pathlib.Path(__file__).resolve().parent
 MIB = 1 << 20
-SEED = 2024
 ALL_NULL = [None] * 3
 PLAN_A = [
     {"op": "leaf", "table": 0, "width": 3},
@@ -23,18 +19,14 @@ PLAN_A = [
     {"op": "join", "kind": "full", "pairs": [[1, 0]], "left_defaults": ALL_NULL, "right_defaults": ALL_NULL},
     {"op": "group", "cols": [0, 4], "aggs": [["count_rows"], ["sum", 2], ["sum", 5], ["count", 2]]},
 ]
-VECTORS = [json.loads(line) for line in (HERE / "vectors" / "check.jsonl").read_text().splitlines()]
+VECTORS = vectors("check.jsonl")
 ACCEPTED = [PLAN_A] + [case["plan"] for case in VECTORS if case["expect"]["number"] == 0]
 
-TALLY = collections.Counter()
-
-# says where, should a call touch the fence
-faulthandler.enable()
+TALLY = Tally()
 
 
 def tearDownModule():
-    numbers = ", ".join(f"{TALLY[number]} of {number}" for number in sorted(TALLY))
-    print(f"\ncheck: {sum(TALLY.values())} cases compared ({numbers})", flush=True)
+    TALLY.say("check")
 
 
 def shown(string):

@@ -1,10 +1,8 @@
 """The run's door against the vectors, and against the runner on random and on damaged cases."""
 
 import collections
-import faulthandler
 import itertools
 import json
-import pathlib
 import random
 import unittest
 
@@ -12,27 +10,22 @@ import damage
 import reader
 import runner
 from arrange import node_bytes, plan_bytes
+from cases import SEED, Tally, vectors
 from door import RunDoor
 from lending import PATTERNS, areas_after, areas_before, with_string
 from random_runs import random_case, random_damage, random_limit, random_refused, random_tables, with_room
 
-HERE = pathlib.Path(__file__).resolve().parent
-SEED = 2024
-VECTORS = [json.loads(line) for line in (HERE / "vectors" / "run.jsonl").read_text().splitlines()]
+VECTORS = vectors("run.jsonl")
 DEPOT = VECTORS[0]
 ACCEPTED = [case for case in VECTORS if case["expect"]["number"] == 0]
 SMALL = [case for case in ACCEPTED if case["work"][0] < 2_000 and len(case["cells"]) < 60]
 PLANS = [case["plan"] for case in ACCEPTED]
 
-TALLY = collections.Counter()
-
-# says where, should a call touch a fence
-faulthandler.enable()
+TALLY = Tally()
 
 
 def tearDownModule():
-    numbers = ", ".join(f"{TALLY[number]} of {number}" for number in sorted(TALLY))
-    print(f"\nrun: {sum(TALLY.values())} cases compared ({numbers})", flush=True)
+    TALLY.say("run")
 
 
 def shown(case):

@@ -3,18 +3,17 @@
 Usage: write_sample.py FILE
 """
 
-import json
 import pathlib
 import random
 import sys
 
 import runner
+from cases import vectors
 from lending import plan_string, result_cells, table_numbers, with_string
 from random_runs import random_case, random_damage, random_refused
 
-HERE = pathlib.Path(__file__).resolve().parent
 SEED = 2025
-VECTORS = [json.loads(line) for line in (HERE / "vectors" / "run.jsonl").read_text().splitlines()]
+VECTORS = vectors("run.jsonl")
 
 
 def line(numbers):

@@ -4,19 +4,17 @@ use mathlib.Core.Path.{_≡_, refl, sym, ap, subst, _∙_}
 use mathlib.Core.Bool.{Bool, true, false, cond, _&&_}
 use mathlib.Core.List.{List, [], _∷_, _++_, append-assoc}
 use mathlib.Core.Option.{Option, some, none}
-use Prim.Native.Nat.{ℕ, zero, suc, _+_, _*_, _-_, _<_, _≤_}
-use native.Mathlib.Nat.{add-zero, add-assoc}
+use Prim.Native.Nat.{ℕ, zero, suc, _+_, _-_, _<_, _≤_}
 use native.Mathlib.Decide.{decLt}
 use native.Mathlib.Omega.{arith}
-use lib.Dec.{eqb, leb, ltb, lit<, eqb·suc-zero}
-use lib.ListN.{length, getD, length-append}
-use borrow.Author.Tests.{eq-eqb, ne-eqb, eqb-true, eqb-false, leb-true, leb-false, lt-leb, le-leb}
+use lib.Dec.{eqb, leb, lit<, eqb·suc-zero}
+use lib.ListN.{length, length-append}
+use borrow.Author.Tests.{ne-eqb, leb-true, lt-leb, le-leb}
 use Rattle.meaning.specs.Plans.{Aggregate, Pair, Join, Plan, leaf, join, group}
 use Rattle.meaning.specs.Columns.{nodes}
-use Rattle.meaning.specs.Arrangement.{joinNumber, joinBytes, groupBytes, bytes, Answers, forNoPlan, forPlan}
+use Rattle.meaning.specs.Arrangement.{joinBytes, groupBytes, bytes, Answers, forNoPlan, forPlan}
 use Rattle.node_bytes.specs.Holding.{Holds, holds-head, holds-front, holds-back, holds-both, holds-to, holds-self, holds-all}
 use Rattle.node_bytes.specs.Words.{Bytes}
-use Rattle.node_bytes.specs.Rows.{and-left, and-right}
 use Rattle.node_bytes.specs.Nodes.{byte, joinSize, groupSize, joinGood, groupGood, sizeIf, nodeSize}
 use Rattle.arrangement.proofs.Roots.{leaf-size, leaf-holds, pairsFrom, kind-some, kind-no-group, joinAt, join-number, join-back, pairs-back, join-size, join-holds, columnsFrom, aggregatesFrom, group-number, columns-back, aggregates-back, group-size, group-holds}
 

@@ -2,21 +2,21 @@
 -- their test are those of what is read.
 use mathlib.Core.Path.{_≡_, refl, sym, ap, subst, _∙_}
 use mathlib.Core.Bool.{Bool, true, false, cond, _&&_, _||_}
-use mathlib.Core.List.{List, [], _∷_, _++_}
-use Prim.Native.Nat.{ℕ, zero, suc, _+_, _*_, _/_, _%_, _<_, _≤_}
+use mathlib.Core.List.{List, [], _∷_}
+use Prim.Native.Nat.{ℕ, _+_, _*_, _/_, _%_, _<_, _≤_}
 use native.Mathlib.Nat.{add-zero}
 use native.Mathlib.Omega.{arith}
 use lib.Dec.{eqb, ltb, lit<, eqb→eq}
 use lib.ListN.{length, getD, replicate}
 use lib.IntN.{ℤ, pos, negsuc}
-use borrow.Author.Tests.{eq-eqb, eqb-true, eqb-false, ltb-true, lt-ltb}
+use borrow.Author.Tests.{eq-eqb, eqb-true, eqb-false, ltb-true}
 use Rattle.meaning.specs.Cells.{Cell, null, num}
 use Rattle.meaning.specs.Plans.{Name, Rows, Count, Sum, Least, Greatest, DistinctSum, DistinctCount, WeightedSum, WeightedCount, Aggregate, rows, count, sum, least, greatest, distinctSum, distinctCount, weightedSum, weightedCount, nameOf, columnsRead, Pair}
 use Rattle.meaning.specs.Arrangement.{zigzag, lowFirst, cellBytes, pairBytes, columnBytes, nameNumber, twoPlaces, aggregateBytes}
 use Rattle.meaning.specs.Rules.{reading, rule}
 use Rattle.rules.specs.Below.{below}
 use Rattle.rules.specs.Lines.{names, nameAt, nameAt-number, lineOf, entryOf}
-use Rattle.node_bytes.specs.Holding.{Holds, holds-head, holds-front, holds-back, holds-both, holds-nil, holds-step, holds-to}
+use Rattle.node_bytes.specs.Holding.{Holds, holds-head, holds-back, holds-both, holds-nil, holds-step, holds-to}
 use Rattle.node_bytes.specs.Widths.{aggregate-wide}
 use Rattle.node_bytes.specs.Words.{wordAt, Bytes, word-written, word-holds, word-zero, zero-word}
 use Rattle.node_bytes.specs.Rows.{and-left, and-right}

@@ -3,15 +3,14 @@ use mathlib.Core.Path.{_≡_, refl, sym, ap, subst, _∙_}
 use mathlib.Core.Bool.{Bool, true, false, cond, _&&_, _||_}
 use mathlib.Core.List.{List, [], _∷_, _++_, map}
 use Prim.Native.Nat.{ℕ, zero, suc, _+_, _*_, _<_, _≤_}
-use native.Mathlib.Nat.{add-zero, add-assoc}
+use native.Mathlib.Nat.{add-zero}
 use native.Mathlib.Omega.{arith}
-use lib.Dec.{eqb, leb, ltb, lit<}
+use lib.Dec.{eqb, leb}
 use lib.ListN.{length, getD, length-append}
-use borrow.Author.Tests.{eq-eqb, ne-eqb, eqb-true, eqb-false, lt-leb, le-leb}
+use borrow.Author.Tests.{ne-eqb, eqb-true, eqb-false, lt-leb, le-leb}
 use Rattle.meaning.specs.Cells.{Cell}
 use Rattle.meaning.specs.Plans.{Row, Aggregate, Pair, Join, inner, leftOuter, fullOuter, leftDefaults, rightDefaults}
 use Rattle.meaning.specs.Arrangement.{inRow, cellBytes, pairBytes, joinNumber, joinBytes, columnBytes, aggregateBytes, groupBytes}
-use Rattle.meaning.specs.Check.{all}
 use Rattle.node_bytes.specs.Holding.{Holds, holds-head, holds-front, holds-back, holds-both, holds-nil, holds-step, holds-to}
 use Rattle.node_bytes.specs.Widths.{pair-wide, column-wide, aggregate-wide, cell-wide}
 use Rattle.node_bytes.specs.Words.{Bytes}

@@ -1,9 +1,9 @@
 -- The check's answer for a byte string, from its shape and from the node of its root.
 use mathlib.Core.Path.{_≡_, refl, sym, ap, subst, _∙_}
-use mathlib.Core.Bool.{Bool, true, false, cond, _&&_}
+use mathlib.Core.Bool.{true, false}
 use mathlib.Core.List.{List}
 use mathlib.Core.Option.{Option, some, none}
-use Prim.Native.Nat.{ℕ, _+_, _-_, _<_, _≤_}
+use Prim.Native.Nat.{ℕ, _-_, _<_, _≤_}
 use native.Mathlib.Omega.{arith}
 use lib.Dec.{leb}
 use lib.ListN.{getD}
@@ -17,7 +17,7 @@ use Rattle.node_bytes.specs.Words.{Bytes}
 use Rattle.arrangement.proofs.Building.{planOf, plan-sound, no-plan}
 use Rattle.shapes.specs.declared.Shape.{Shape}
 use Rattle.shapes.specs.Shapes.{shapeOf, startOf}
-use Rattle.checks.specs.Verdicts.{treeNumber, check-tree}
+use Rattle.checks.specs.Verdicts.{check-tree}
 use Rattle.checks.specs.Standing.{stands-whole}
 use Rattle.checks.specs.Shaping.{planShape, shape-plan}
 use Rattle.checks.specs.Describing.{Described, Describes, Standing, nodes-some}

@@ -1,8 +1,8 @@
 -- What the check knows of a node: the number, width, place and kinds of the subtree whose root it is.
-use mathlib.Core.Path.{_≡_, refl, sym, ap, subst, _∙_}
-use mathlib.Core.Bool.{Bool, true, false}
-use mathlib.Core.List.{List, [], _∷_, _++_, map}
-use Prim.Native.Nat.{ℕ, zero, suc, _+_, _*_, _-_, _<_, _≤_}
+use mathlib.Core.Path.{_≡_, sym, ap, subst, _∙_}
+use mathlib.Core.Bool.{true}
+use mathlib.Core.List.{List, [], _∷_, map}
+use Prim.Native.Nat.{ℕ, _+_, _*_, _-_, _<_, _≤_}
 use native.Mathlib.Omega.{arith}
 use lib.Dec.{lit<}
 use lib.ListN.{length, getD, take}
@@ -14,7 +14,7 @@ use Rattle.meaning.specs.Check.{everyNode, nodeWithin, nodeColumns, leftWidth}
 use Rattle.node_bytes.specs.Holding.{Holds, holds-head, holds-to}
 use Rattle.node_bytes.specs.Words.{Bytes}
 use Rattle.node_bytes.specs.Nodes.{byte, joinSize, groupSize}
-use Rattle.arrangement.proofs.Roots.{kind-some, kind-no-group, join-number, join-pairs, join-long, group-number, group-columns, group-aggregates, group-long}
+use Rattle.arrangement.proofs.Roots.{kind-some, kind-no-group, join-number, join-long, group-number, group-columns, group-aggregates, group-long}
 use Rattle.arrangement.proofs.Building.{join-some, group-some}
 use Rattle.shapes.specs.Shapes.{startOf}
 use Rattle.node_checks.specs.Weights.{kindNumber}

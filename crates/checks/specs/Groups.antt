@@ -1,27 +1,26 @@
 -- A grouping's node describes the grouping, and a table's node the table.
 use mathlib.Core.Path.{_≡_, refl, sym, ap, subst, _∙_}
 use mathlib.Core.Bool.{Bool, true, false, cond, _&&_, and-true}
-use mathlib.Core.List.{List, [], _∷_, _++_, map}
+use mathlib.Core.List.{List, _∷_, _++_, map}
 use Prim.Native.Nat.{ℕ, zero, suc, _+_, _<_, _≤_}
 use native.Mathlib.Omega.{arith}
-use lib.Dec.{leb, ltb}
+use lib.Dec.{leb}
 use lib.ListN.{length, take, replicate}
 use borrow.Author.Tests.{leb-true}
 use Rattle.meaning.specs.Limits.{mostColumns, upTo}
 use Rattle.meaning.specs.Plans.{Aggregate, columnsRead, Plan, leaf, join, group}
-use Rattle.meaning.specs.Rules.{Kind, plain}
+use Rattle.meaning.specs.Rules.{plain}
 use Rattle.meaning.specs.Columns.{width, kinds, kindAt, aggregateKind}
 use Rattle.meaning.specs.Arrangement.{groupBytes}
-use Rattle.meaning.specs.Check.{all, everyNode, pairsWithin, nodeWithin, columnsThere, distinct, nodeColumns, isJoin, leftWidth, aggregateRight, nodeWeights}
+use Rattle.meaning.specs.Check.{all, everyNode, pairsWithin, nodeWithin, columnsThere, distinct, nodeColumns, isJoin, leftWidth, nodeWeights}
 use Rattle.node_bytes.specs.Holding.{Holds}
 use Rattle.node_bytes.specs.Rows.{and-left, and-right}
 use Rattle.node_bytes.specs.Nodes.{byte}
 use Rattle.arrangement.proofs.Roots.{group-columns, group-aggregates, columns-held, aggregates-held}
-use Rattle.node_checks.specs.Columns.{columnsAt, distinctAt, readsAt}
 use Rattle.node_checks.specs.Weights.{kindNumber, weightsAt, columnKindsAt, aggregateKindsAt}
 use Rattle.node_checks.specs.Trees.{columns-tree, distinct-tree, reads-tree, column-kinds-tree, aggregate-kinds-tree, weights-tree}
 use Rattle.node_checks.specs.Numbers.{groupWithinAt, groupColumnsAt, groupWeightsAt, GroupKinds}
-use Rattle.checks.specs.Verdicts.{numberOf, treeNumber, verdict, tree-group, tree-leaf, not-two, not-three, verdict-same}
+use Rattle.checks.specs.Verdicts.{treeNumber, verdict, tree-group, tree-leaf, not-two, not-three, verdict-same}
 use Rattle.checks.specs.Describing.{Described, DescribesTable}
 use Rattle.checks.specs.Joins.{kinds-wide, map-append}
 use Rattle.checks.specs.declared.Node.{Node}

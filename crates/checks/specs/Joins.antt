@@ -1,16 +1,15 @@
 -- A join's node describes the join: its tests of bytes are those of the tree, and so are its kinds.
-use mathlib.Core.Path.{_≡_, refl, sym, ap, subst, _∙_}
+use mathlib.Core.Path.{_≡_, refl, sym, ap, _∙_}
 use mathlib.Core.Logic.{_⊎_, inl, inr, ⊎-elim}
-use mathlib.Core.Bool.{Bool, true, false, not, cond, _&&_, _||_}
+use mathlib.Core.Bool.{Bool, true, _&&_}
 use mathlib.Core.List.{List, [], _∷_, _++_, map}
-use Prim.Native.Nat.{ℕ, zero, suc, _+_, _*_, _<_, _≤_}
-use native.Mathlib.Omega.{arith}
-use lib.Dec.{eqb, leb, ltb}
+use Prim.Native.Nat.{ℕ, _+_, _*_, _≤_}
+use lib.Dec.{eqb, leb}
 use lib.ListN.{length, take, length-append, length-map, length-replicate}
 use borrow.Author.Tests.{leb-true, eqb-true}
-use Rattle.meaning.specs.Limits.{mostColumns, mostPairs, upTo}
+use Rattle.meaning.specs.Limits.{mostColumns, upTo}
 use Rattle.meaning.specs.Cells.{Cell}
-use Rattle.meaning.specs.Plans.{Aggregate, Pair, Join, inner, leftOuter, fullOuter, leftDefaults, rightDefaults, Plan, leaf, join, group}
+use Rattle.meaning.specs.Plans.{Pair, Join, inner, leftOuter, fullOuter, leftDefaults, rightDefaults, Plan, leaf, join, group}
 use Rattle.meaning.specs.Rules.{Kind}
 use Rattle.meaning.specs.Columns.{width, kinds, nodes, kindAt, aggregateKind}
 use Rattle.meaning.specs.Arrangement.{inRow, cellBytes, joinNumber, joinBytes}

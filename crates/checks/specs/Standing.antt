@@ -1,10 +1,9 @@
 -- Where the nodes of a plan stand in its byte string.
 use mathlib.Core.Path.{_≡_, refl, sym, ap, subst, _∙_}
 use mathlib.Core.List.{List, [], _∷_, _++_}
-use Prim.Native.Nat.{ℕ, zero, suc, _+_, _<_, _≤_}
-use native.Mathlib.Nat.{add-zero, add-assoc}
+use Prim.Native.Nat.{ℕ, suc, _+_}
 use native.Mathlib.Omega.{arith}
-use lib.ListN.{length, getD, length-append}
+use lib.ListN.{length, length-append}
 use Rattle.meaning.specs.Plans.{Plan, leaf, join, group}
 use Rattle.meaning.specs.Columns.{nodes}
 use Rattle.meaning.specs.Arrangement.{joinBytes, groupBytes, bytes}

@@ -1,9 +1,8 @@
 -- The number of a plan from the numbers of its inputs and the tests of its root.
-use mathlib.Core.Path.{_≡_, refl, sym, ap, _∙_}
+use mathlib.Core.Path.{_≡_, refl, ap, _∙_}
 use mathlib.Core.Bool.{Bool, true, false, not, cond, _&&_}
 use mathlib.Core.List.{List, [], _∷_}
-use Prim.Native.Nat.{ℕ, zero, suc, _<_, _≤_}
-use native.Mathlib.Omega.{arith}
+use Prim.Native.Nat.{ℕ}
 use lib.Dec.{T, eqb, ltb, leb, eqb→eq}
 use Rattle.meaning.specs.Limits.{mostNodes, mostLeaves}
 use Rattle.meaning.specs.Plans.{Plan, leaf, join, group, Join, Pair, Aggregate}

@@ -1,18 +1,18 @@
 -- What a worked example claims of a plan, and the test that it holds.
-use mathlib.Core.Bool.{Bool, true, false, cond, _&&_}
+use mathlib.Core.Bool.{Bool, true, false, _&&_}
 use mathlib.Core.List.{List, [], _∷_, map}
 use Prim.Native.Nat.{ℕ, _*_}
 use lib.Dec.{eqb}
 use lib.ListN.{length, take, replicate}
 use lib.IntN.{pos}
-use Rattle.meaning.specs.Limits.{mostColumns, mostLimit}
+use Rattle.meaning.specs.Limits.{mostColumns}
 use Rattle.meaning.specs.Cells.{Cell, num}
-use Rattle.meaning.specs.Plans.{Row, Table, Plan}
+use Rattle.meaning.specs.Plans.{Table, Plan}
 use Rattle.meaning.specs.Columns.{width, nodes}
 use Rattle.meaning.specs.Arrangement.{bytes}
 use Rattle.meaning.specs.Grouping.{sameKey}
 use Rattle.meaning.specs.Meaning.{meaning}
-use Rattle.meaning.specs.Check.{all, checkNumber}
+use Rattle.meaning.specs.Check.{all}
 use Rattle.meaning.specs.Running.{Lent, Areas, Ran, cellNumber, cellMark, flat, runOf, tablesOf}
 use Rattle.meaning.specs.Rewriting.{Rewritten, rewriteOf}
 

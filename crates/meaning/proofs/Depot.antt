@@ -1,10 +1,10 @@
 -- The worked depot of the scope: tables U and R, plan A and its two pushes, and the cases P1 to P12.
 use mathlib.Core.List.{List, [], _∷_}
 use Prim.Native.Nat.{ℕ}
-use lib.IntN.{ℤ, pos}
+use lib.IntN.{pos}
 use Rattle.meaning.specs.Cells.{Cell, null, num}
-use Rattle.meaning.specs.Plans.{Row, Table, Aggregate, rows, count, sum, distinctCount, weightedSum, weightedCount, Pair, Join, leftOuter, fullOuter, Plan, leaf, join, group}
-use Rattle.meaning.specs.Running.{Lent, Place}
+use Rattle.meaning.specs.Plans.{Row, Table, rows, count, sum, distinctCount, weightedSum, weightedCount, Pair, leftOuter, fullOuter, Plan, leaf, join, group}
+use Rattle.meaning.specs.Running.{Lent}
 use Rattle.meaning.proofs.Claims.{Claim, counts, gives, runs, pushes, refuses, Example}
 
 abbrev pub n : ℕ → Cell

@@ -3,9 +3,9 @@ use mathlib.Core.List.{List, [], _∷_}
 use Prim.Native.Nat.{ℕ}
 use lib.IntN.{ℤ, pos}
 use lib.ListN.{replicate}
-use Rattle.meaning.specs.Cells.{Cell, null, num}
-use Rattle.meaning.specs.Plans.{Row, Table, Aggregate, rows, sum, weightedSum, Pair, Join, inner, leftOuter, fullOuter, Plan, leaf, join, group}
-use Rattle.meaning.specs.Running.{Lent, Place}
+use Rattle.meaning.specs.Cells.{null}
+use Rattle.meaning.specs.Plans.{Row, Table, rows, sum, weightedSum, Pair, Join, inner, leftOuter, fullOuter, Plan, leaf, join, group}
+use Rattle.meaning.specs.Running.{Lent}
 use Rattle.meaning.proofs.Claims.{Claim, counts, gives, pushes, Example}
 use Rattle.meaning.proofs.Depot.{n, three-nulls}
 

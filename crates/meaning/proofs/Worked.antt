@@ -14,7 +14,7 @@ use Rattle.meaning.specs.Meaning.{meaning, passes}
 use Rattle.meaning.specs.Check.{refuse, firstOf, all, everyNode, pairsWithin, nodeWithin, within, pairsThere, defaultsThere, columnsThere, distinct, nodeColumns, defaultRight, defaultsRight, isWeight, leftWidth, isJoin, apart, weightPlaced, aggregateRight, nodeWeights, checkNumber}
 use Rattle.meaning.specs.Running.{cellFrom, cellsFrom, rowsFrom, tableAt, tablesOf, cellRight, cellsRight, insideRun, placeRight, leafRight, roomRight, runNumber, cellNumber, cellMark, flat, onto, cleared, filled, refusedRun, resultRun, runOf}
 use Rattle.meaning.specs.Rewriting.{sideOf, isOn, ownNumber, pairColumn, reads, intoColumns, ascendingColumns, newColumns, orOwn, columnV, partials, newAggregates, placeIn, newDefaults, newJoin, newPair, base, newNumber, upperAggregates, lower, newInputs, middle, upper, pushedGroup, pushed, nodeAt, changeAt, newPlan, isWeighted, readsBoth, isNone, notDecomposable, tooWide, groupNumber, pushNumber, refusedRewriting, newRewriting, roomFor, rewriteAt, rewriteOf}
-use Rattle.meaning.proofs.Claims.{sameNumbers, sameTable, areasFor, sameRun, sameRewriting, holds, right, Example}
+use Rattle.meaning.proofs.Claims.{sameNumbers, sameTable, areasFor, sameRun, sameRewriting, holds, right}
 use Rattle.meaning.proofs.Depot.{depot-claims, depot-examples}
 use Rattle.meaning.proofs.Published.{fig-4-claims, fig-2-claims, published-examples}
 

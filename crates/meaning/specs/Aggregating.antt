@@ -1,8 +1,8 @@
 -- What an aggregate gives over the rows of a group.
-use mathlib.Core.Bool.{Bool, cond}
-use mathlib.Core.List.{List, [], _∷_, _++_, map}
-use Prim.Native.Nat.{ℕ, suc}
-use lib.ListN.{length, getD}
+use mathlib.Core.Bool.{cond}
+use mathlib.Core.List.{List, [], _∷_, _++_}
+use Prim.Native.Nat.{suc}
+use lib.ListN.{length}
 use lib.IntN.{ℤ, pos, _+ℤ_, _*ℤ_}
 use lib.Signed.{ltZ}
 use Rattle.meaning.specs.Cells.{Cell, null, num, eqZ}

@@ -5,7 +5,7 @@ use Prim.Native.Nat.{ℕ, zero, suc, _+_, _*_, _/_, _%_}
 use lib.ListN.{length, replicate}
 use lib.IntN.{ℤ, pos, negsuc}
 use Rattle.meaning.specs.Cells.{Cell, null, num}
-use Rattle.meaning.specs.Plans.{Row, Name, Rows, Count, Sum, Least, Greatest, DistinctSum, DistinctCount, WeightedSum, WeightedCount, Aggregate, nameOf, columnsRead, Pair, Join, inner, leftOuter, fullOuter, leftDefaults, rightDefaults, Plan, leaf, join, group}
+use Rattle.meaning.specs.Plans.{Name, Rows, Count, Sum, Least, Greatest, DistinctSum, DistinctCount, WeightedSum, WeightedCount, Aggregate, nameOf, columnsRead, Pair, Join, inner, leftOuter, fullOuter, leftDefaults, rightDefaults, Plan, leaf, join, group}
 
 -- a whole number as a natural one: 0, -1, 1, -2, 2 .. become 0, 1, 2, 3, 4 ..
 unfoldable pub zigzag : ℤ → ℕ

@@ -4,7 +4,7 @@ use mathlib.Core.List.{List, [], _∷_}
 use Prim.Native.Nat.{ℕ, zero, suc}
 use lib.Dec.{eqb, leb, ltb}
 use lib.ListN.{length}
-use lib.IntN.{ℤ, pos, natAbs}
+use lib.IntN.{pos, natAbs}
 use Rattle.meaning.specs.Limits.{mostNodes, mostLeaves, mostColumns, mostPairs, mostSize, upTo}
 use Rattle.meaning.specs.Cells.{Cell, null, num, eqZ}
 use Rattle.meaning.specs.Plans.{Row, Aggregate, rows, count, sum, least, greatest, distinctSum, distinctCount, weightedSum, weightedCount, columnsRead, Pair, Join, inner, leftOuter, fullOuter, leftDefaults, rightDefaults, Plan, leaf, join, group}

@@ -1,5 +1,5 @@
 -- Width, kinds and size of a node: "A node's columns and kinds follow from those of its inputs, down to the leaves."
-use mathlib.Core.List.{List, [], _∷_, _++_, map}
+use mathlib.Core.List.{List, _++_, map}
 use Prim.Native.Nat.{ℕ, _+_}
 use lib.ListN.{length, getD, replicate}
 use Rattle.meaning.specs.Plans.{Aggregate, nameOf, columnsRead, Plan, leaf, join, group}

@@ -2,7 +2,7 @@
 use mathlib.Core.Bool.{Bool, true, false, cond, _&&_, _||_}
 use mathlib.Core.List.{List, [], _∷_, _++_, map}
 use Prim.Native.Nat.{ℕ}
-use Rattle.meaning.specs.Cells.{Cell, groups, below}
+use Rattle.meaning.specs.Cells.{groups, below}
 use Rattle.meaning.specs.Plans.{Row, Table, Aggregate}
 use Rattle.meaning.specs.Joining.{cell, keep}
 use Rattle.meaning.specs.Aggregating.{aggregate}

@@ -4,11 +4,11 @@ use mathlib.Core.Bool.{Bool, true, _&&_}
 use mathlib.Core.List.{List, [], _∷_}
 use Prim.Native.Nat.{ℕ, _+_, _*_, _^_, _≤_}
 use lib.ListN.{length}
-use lib.IntN.{ℤ, pos, natAbs}
+use lib.IntN.{natAbs}
 use lib.Signed.{nonNeg}
 use Rattle.meaning.specs.Limits.{mostRows, mostSize}
 use Rattle.meaning.specs.Cells.{Cell, null, num}
-use Rattle.meaning.specs.Plans.{Row, Table, Plan}
+use Rattle.meaning.specs.Plans.{Table, Plan}
 use Rattle.meaning.specs.Rules.{Kind, weight}
 use Rattle.meaning.specs.Columns.{kinds, kindAt, leaves}
 use Rattle.meaning.specs.Joining.{cell}

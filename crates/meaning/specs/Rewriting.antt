@@ -12,9 +12,9 @@ use mathlib.Core.List.{List, [], _∷_, _++_, map}
 use mathlib.Core.Option.{Option, some, none}
 use Prim.Native.Nat.{ℕ, zero, suc, _+_, _-_}
 use lib.Dec.{eqb, leb, ltb}
-use lib.ListN.{length, getD, drop}
+use lib.ListN.{length, getD}
 use Rattle.meaning.specs.Limits.{mostNodes, mostColumns}
-use Rattle.meaning.specs.Plans.{Row, Name, Rows, Aggregate, rows, nameOf, columnsRead, Pair, Join, inner, leftOuter, fullOuter, Plan, leaf, join, group}
+use Rattle.meaning.specs.Plans.{Row, Name, Aggregate, rows, nameOf, columnsRead, Pair, Join, inner, leftOuter, fullOuter, Plan, leaf, join, group}
 use Rattle.meaning.specs.Arrangement.{bytes, Answers}
 use Rattle.meaning.specs.Rules.{rule, reading}
 use Rattle.meaning.specs.Columns.{width, nodes}

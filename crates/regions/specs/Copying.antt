@@ -1,15 +1,15 @@
 -- A part of a run of memory copied to another place of the same run or of another one.
-use mathlib.Core.Path.{_≡_, refl, sym, ap, _∙_}
-use mathlib.Core.Logic.{_⊎_, inl, inr, ⊎-elim}
+use mathlib.Core.Path.{_≡_, sym, ap, _∙_}
+use mathlib.Core.Logic.{_⊎_, ⊎-elim}
 use mathlib.Core.List.{List}
-use Prim.Native.Nat.{ℕ, zero, suc, _+_, _<_, _≤_}
+use Prim.Native.Nat.{ℕ, _+_, _<_, _≤_}
 use native.Mathlib.Decide.{decLt}
 use native.Mathlib.Omega.{arith}
 use lib.ListN.{length, getD, set, length-set}
 use lib.Seq.{getD-set-same, getD-set-other}
 use lib.IntN.{ℤ, pos}
 use Rattle.node_bytes.specs.Holding.{Span}
-use Rattle.regions.specs.Keeping.{Kept, kept-all, kept-then, kept-set}
+use Rattle.regions.specs.Keeping.{Kept, kept-all}
 
 -- n elements of `source` from a place on now stand in s′, which was s, from another place on; nothing else of s changed
 pub record Copied {A : Type 0} (d : A) (source s s′ : List A) (from to n : ℕ) : Type 0 where

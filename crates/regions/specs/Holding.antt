@@ -7,7 +7,7 @@ use native.Mathlib.Omega.{arith}
 use lib.ListN.{length, getD, length-append, length-map, List·getD-append}
 use lib.Seq.{getD-append-seam}
 use lib.IntN.{ℤ, pos}
-use Rattle.meaning.specs.Cells.{Cell, null, num}
+use Rattle.meaning.specs.Cells.{null}
 use Rattle.meaning.specs.Plans.{Row, Table}
 use Rattle.meaning.specs.Running.{cellNumber, cellMark, flat}
 use Rattle.node_bytes.specs.Holding.{Span, holds-front, holds-back, holds-both, holds-to}

@@ -18,7 +18,7 @@ use Rattle.meaning.specs.Running.{cellFrom, cellsFrom, rowsFrom, cellRight, cel
 use Rattle.node_bytes.specs.Holding.{Span}
 use Rattle.node_bytes.specs.Rows.{and-left, and-right}
 use Rattle.regions.specs.Copying.{Copied, CopiedIn, copied-span}
-use Rattle.regions.specs.Holding.{Held, HeldRows, held-number, held-mark, held-front, held-back, held-to, getD-map, flat-long}
+use Rattle.regions.specs.Holding.{Held, HeldRows, held-number, held-mark, held-front, held-back, held-to, getD-map}
 
 -- ---- cells read from a place on
 

@@ -1,8 +1,9 @@
 // Rows in a lent area of cells and marks: copied where they are, cell by cell.
-ghost use mathlib.Core.Path.{_≡_};
-ghost use lib.ListN.{length, replicate};
+ghost use Prim.Native.Nat.{_≤_};
+ghost use lib.ListN.{length};
 ghost use lib.IntN.{pos};
 ghost use Rattle.regions.specs.Copying.{Room, CopiedWithin, RoomIn, CopiedIn};
+ghost use Rattle.regions.specs.Clearing.{Cleared};
 
 // Copies n cells and their marks to another place of the same area; the places lie apart.
 pub fn copy_within(cells: &mut [i64], marks: &mut [u8], from: usize, to: usize, n: usize)
@@ -42,23 +43,25 @@ pub fn copy_into(
     }
 }
 
-// Every cell of an area becomes 0.
-pub fn clear_cells(cells: &mut [i64])
-    ensures { λ r. ⌜ now (cells .exit) ≡ replicate (length (now (cells .entry))) (pos 0) ⌝ }
+// The first n cells of an area become 0.
+pub fn clear_cells(cells: &mut [i64], n: usize)
+    requires { ⌜ n ≤ length (now cells) ⌝ }
+    ensures { λ r. ⌜ Cleared (pos 0) (now (cells .entry)) (now (cells .exit)) n ⌝ }
 {
     let mut i = 0;
-    while i < cells.len() {
+    while i < n {
         cells[i] = 0;
         i += 1;
     }
 }
 
-// Every mark of an area becomes 0.
-pub fn clear_marks(marks: &mut [u8])
-    ensures { λ r. ⌜ now (marks .exit) ≡ replicate (length (now (marks .entry))) 0 ⌝ }
+// The first n marks of an area become 0.
+pub fn clear_marks(marks: &mut [u8], n: usize)
+    requires { ⌜ n ≤ length (now marks) ⌝ }
+    ensures { λ r. ⌜ Cleared 0 (now (marks .entry)) (now (marks .exit)) n ⌝ }
 {
     let mut i = 0;
-    while i < marks.len() {
+    while i < n {
         marks[i] = 0;
         i += 1;
     }

@@ -1,10 +1,10 @@
 -- The rule table as numbers: the line of an aggregate, from the definition of its rule.
 use mathlib.Core.Path.{_≡_, refl}
-use mathlib.Core.Bool.{Bool, cond}
+use mathlib.Core.Bool.{cond}
 use mathlib.Core.List.{List, [], _∷_}
 use mathlib.Core.Option.{Option, some, none}
-use Prim.Native.Nat.{ℕ, zero, suc, _<_, _≤_}
-use lib.Dec.{ltb, leb}
+use Prim.Native.Nat.{ℕ}
+use lib.Dec.{leb}
 use lib.ListN.{getD, length}
 use Rattle.meaning.specs.Cells.{Cell, null, num}
 use Rattle.meaning.specs.Plans.{Name, Rows, Count, Sum, Least, Greatest, DistinctSum, DistinctCount, WeightedSum, WeightedCount, Aggregate, rows, count, sum, least, greatest, distinctSum, distinctCount, weightedSum, weightedCount, nameOf, columnsRead}

@@ -10,4 +10,6 @@ pub mod Amounts
 pub mod Joins
 pub mod Groupings
 pub mod Ways
+pub mod Results
+pub mod Roots
 pub mod Outcomes

@@ -15,7 +15,7 @@ use native.Mathlib.Omega.{arith}
 use borrow.Author.Tests.{ltb-true, ltb-false, lt-ltb, le-ltb, leb-true, le-leb, lt-leb, eq-eqb, ne-eqb}
 use Rattle.meaning.specs.Limits.{mostRows, mostSize}
 use Rattle.meaning.specs.Cells.{eqZ}
-use Rattle.meaning.specs.Running.{Place, placesIn, lentOf, nowhere, cellRight, cellsRight, placeRight, insideRun, leafRight}
+use Rattle.meaning.specs.Running.{Place, placesIn, lentOf, nowhere, cellRight, cellsRight, placeRight, insideRun}
 use Rattle.node_bytes.specs.Rows.{and-left, and-right, every}
 
 -- the table whose three numbers stand at a place

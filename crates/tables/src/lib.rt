@@ -1,7 +1,7 @@
 // Tables in lent memory: whether those that a plan names are right, and the room that a run needs.
 ghost use mathlib.Core.Path.{_≡_};
 ghost use Prim.Native.Nat.{_+_, _*_, _<_, _≤_};
-ghost use lib.ListN.{length, getD};
+ghost use lib.ListN.{length};
 ghost use Rattle.meaning.specs.Running.{cellRight, cellsRight};
 ghost use Rattle.tables.specs.Places.{insideAt, tableRight};
 

@@ -1,37 +1,39 @@
--- `regions::clear_marks` clears from the front on, to the end of the area.
-use Prim.Native.Nat.{_-_}
+-- `regions::clear_marks` clears from the front on, up to the n-th.
+use mathlib.Core.Path.{_≡_}
+use Prim.Native.Nat.{_-_, _≤_}
 use native.Mathlib.Omega.{arith}
-use lib.ListN.{length}
-use Rattle.regions.specs.Clearing.{Cleared, cleared-none, cleared-more, cleared-all}
+use Rattle.regions.specs.Clearing.{Cleared, cleared-none, cleared-more}
 use Rattle.regions.proofs.clear_marks.Statement.{statement}
 use Rattle.regions.proofs.clear_marks.Tie as tie
 
 abbrev Inv-loop : tie.InvT-loop
-Inv-loop marks₀ i₀ marks i = Cleared 0 marks₀ marks i
+Inv-loop marks₀ n i₀ marks i = Cleared 0 marks₀ marks i × (i ≤ n)
 
 abbrev μ-loop : tie.MeasureT-loop
-μ-loop marks₀ i₀ marks i = length marks - i
+μ-loop marks₀ n i₀ marks i = n - i
 
 loop-holds : tie.Need-loop-holds Inv-loop μ-loop
-loop-holds c = cleared-none _
+loop-holds c = (cleared-none _, omega arith)
 
 slice-write-marks : tie.Need-slice-write-marks Inv-loop μ-loop
-slice-write-marks c = omega arith
+slice-write-marks c = omega (arith, c .loop-test .taken, c .before .before .pre, c .before .loop .inv .0 .long)
 
 add-i : tie.Need-add-i Inv-loop μ-loop
-add-i c = omega (arith, c .before .loop .inv .long)
+add-i c = let z = c .before .before in omega (arith, c .loop-test .taken, z .pre, z .good .0)
 
 loop-less : tie.Need-loop-less Inv-loop μ-loop
-loop-less c = omega (arith, cleared-more _ _ _ (c .before .loop .inv) (c .loop-test .taken) .long, c .before .loop .inv .long)
+loop-less c = omega (arith, c .loop-test .taken)
 
 loop-again : tie.Need-loop-again Inv-loop μ-loop
-loop-again c = cleared-more _ _ _ (c .before .loop .inv) (c .loop-test .taken)
+loop-again c =
+    let v = c .before .loop .inv .0 in
+    (cleared-more _ _ _ v (omega (arith, c .loop-test .taken, c .before .before .pre, v .long)), omega (arith, c .loop-test .taken))
 
 same-length : tie.Need-same-length Inv-loop μ-loop
-same-length c = c .before .loop .inv .long
+same-length c = c .before .loop .inv .0 .long
 
 returns : tie.Need-returns Inv-loop μ-loop
-returns c = cleared-all _ _ _ (c .before .loop .inv) (c .loop-test .left)
+returns c = let q : c .before .loop .i ≡ c .before .before .args .n = omega (arith, c .before .loop .inv .1, c .loop-test .left) in rw q at (c .before .loop .inv .0)
 
 pub clear-marks-spec : {M : Type 1} → statement M
 clear-marks-spec =
