@@ -1,15 +1,7 @@
 pub mod Leaves
 pub mod Room
-pub mod Copies
-pub mod Nodes
-pub mod Inputs
-pub mod Descending
 pub mod Answering
 pub mod Finishing
-pub mod Amounts
-pub mod Joins
-pub mod Groupings
-pub mod Ways
 pub mod Results
 pub mod Roots
 pub mod Outcomes
