@@ -14,12 +14,12 @@ use Rattle.meaning.specs.Cells.{Cell, null, num}
 use Rattle.meaning.specs.Plans.{Name, Rows, Count, Sum, Least, Greatest, DistinctSum, DistinctCount, WeightedSum, WeightedCount, Aggregate, rows, count, sum, least, greatest, distinctSum, distinctCount, weightedSum, weightedCount, nameOf, columnsRead, Pair}
 use Rattle.meaning.specs.Arrangement.{zigzag, lowFirst, cellBytes, pairBytes, columnBytes, nameNumber, twoPlaces, aggregateBytes}
 use Rattle.meaning.specs.Rules.{reading, rule}
+use Rattle.lists.specs.Tests.{and-left, and-right}
 use Rattle.rules.specs.Below.{below}
 use Rattle.rules.specs.Lines.{names, nameAt, nameAt-number, lineOf, entryOf}
 use Rattle.node_bytes.specs.Holding.{Holds, holds-head, holds-back, holds-both, holds-nil, holds-step, holds-to}
 use Rattle.node_bytes.specs.Widths.{aggregate-wide}
 use Rattle.node_bytes.specs.Words.{wordAt, Bytes, word-written, word-holds, word-zero, zero-word}
-use Rattle.node_bytes.specs.Rows.{and-left, and-right}
 use Rattle.node_bytes.specs.Nodes.{byte, cellGood, aggregateGood}
 
 -- ---- whole numbers
@@ -177,7 +177,7 @@ reads-own DistinctCount v c e = record { name = refl; first = refl; second = sym
 reads-own WeightedSum v c e = record { name = refl; first = refl; second = refl }
 reads-own WeightedCount v c e = record { name = refl; first = refl; second = refl }
 
-number-name : (n : ℕ) → n < 9 → nameNumber (nameAt n) ≡ n
+pub number-name : (n : ℕ) → n < 9 → nameNumber (nameAt n) ≡ n
 unfolding nameNumber nameAt names
 number-name n h = eqb→eq _ _ (below (λ (k : ℕ). eqb (nameNumber (nameAt k)) k) 9 tt n h)
 

@@ -11,10 +11,11 @@ use borrow.Author.Tests.{ne-eqb, eqb-true, eqb-false, lt-leb, le-leb}
 use Rattle.meaning.specs.Cells.{Cell}
 use Rattle.meaning.specs.Plans.{Row, Aggregate, Pair, Join, inner, leftOuter, fullOuter, leftDefaults, rightDefaults}
 use Rattle.meaning.specs.Arrangement.{inRow, cellBytes, pairBytes, joinNumber, joinBytes, columnBytes, aggregateBytes, groupBytes}
+use Rattle.lists.specs.Tests.{and-left, and-right, or-rest}
 use Rattle.node_bytes.specs.Holding.{Holds, holds-head, holds-front, holds-back, holds-both, holds-nil, holds-step, holds-to}
 use Rattle.node_bytes.specs.Widths.{pair-wide, column-wide, aggregate-wide, cell-wide}
 use Rattle.node_bytes.specs.Words.{Bytes}
-use Rattle.node_bytes.specs.Rows.{and-left, and-right, every, every-append, listAt, length-list, length-row, all-true, every-all, list-back, list-holds}
+use Rattle.node_bytes.specs.Rows.{every, every-append, listAt, length-list, length-row, all-true, every-all, list-back, list-holds}
 use Rattle.node_bytes.specs.Nodes.{byte, cellGood, cellsGood, aggregateGood, aggregatesGood, joinSize, groupSize, joinGood, groupGood, sizeIf, nodeSize}
 use Rattle.arrangement.proofs.Items.{cellAt, cell-back, cell-good, cell-holds, pairAt, pair-back, pair-holds, column-back, column-holds, aggregateAt, aggregate-back, aggregate-good, aggregate-holds}
 
@@ -262,20 +263,16 @@ module _ (s : List ℕ) (b : Bytes s) (at : ℕ) (f : at + joinSize s at ≤ len
   unfolding listAt
   none-from g from n e = rw e
 
-  or-right : (a b : Bool) → a ≡ false → (a || b) ≡ true → b ≡ true
-  or-right true b n e = let z : _≡_ {A = ℕ} 0 1 = cc in absurd (omega arith)
-  or-right false b n e = e
-
   lefts-none : (byte s at ≡ 3 → ⊥) → leftsFrom s at ≡ []
   lefts-none n =
       none-from (cellAt s) (at + 4 + 2 * byte s (at + 1)) (byte s (at + 2))
-      (eqb-true _ _ (or-right (eqb (byte s at) 3) (eqb (byte s (at + 2)) 0) (ne-eqb _ _ n) no-lefts-but-3))
+      (eqb-true _ _ (or-rest (eqb (byte s at) 3) (eqb (byte s (at + 2)) 0) (ne-eqb _ _ n) no-lefts-but-3))
 
   rights-none : byte s at ≡ 1 → rightsFrom s at ≡ []
   rights-none e =
       none-from (cellAt s) (at + 4 + 2 * byte s (at + 1) + 9 * byte s (at + 2)) (byte s (at + 3))
       (eqb-true _ _
-      (or-right (leb 2 (byte s at)) (eqb (byte s (at + 3)) 0) (lt-leb 2 (byte s at) (omega arith))
+      (or-rest (leb 2 (byte s at)) (eqb (byte s (at + 3)) 0) (lt-leb 2 (byte s at) (omega arith))
       (and-left (leb 2 (byte s at) || eqb (byte s (at + 3)) 0)
       (cellsGood s (at + 4 + 2 * byte s (at + 1)) (byte s (at + 2) + byte s (at + 3)))
       others-good)))

@@ -13,8 +13,10 @@ use Rattle.meaning.specs.Rules.{plain}
 use Rattle.meaning.specs.Columns.{width, kinds, kindAt, aggregateKind}
 use Rattle.meaning.specs.Arrangement.{groupBytes}
 use Rattle.meaning.specs.Check.{all, everyNode, pairsWithin, nodeWithin, columnsThere, distinct, nodeColumns, isJoin, leftWidth, nodeWeights}
+use Rattle.meaning.proofs.Widths.{kinds-long}
+use Rattle.lists.specs.Each.{map-append}
+use Rattle.lists.specs.Tests.{and-left, and-right}
 use Rattle.node_bytes.specs.Holding.{Holds}
-use Rattle.node_bytes.specs.Rows.{and-left, and-right}
 use Rattle.node_bytes.specs.Nodes.{byte}
 use Rattle.arrangement.proofs.Roots.{group-columns, group-aggregates, columns-held, aggregates-held}
 use Rattle.node_checks.specs.Weights.{kindNumber, weightsAt, columnKindsAt, aggregateKindsAt}
@@ -22,7 +24,6 @@ use Rattle.node_checks.specs.Trees.{columns-tree, distinct-tree, reads-tree, co
 use Rattle.node_checks.specs.Numbers.{groupWithinAt, groupColumnsAt, groupWeightsAt, GroupKinds}
 use Rattle.checks.specs.Verdicts.{treeNumber, verdict, tree-group, tree-leaf, not-two, not-three, verdict-same}
 use Rattle.checks.specs.Describing.{Described, DescribesTable}
-use Rattle.checks.specs.Joins.{kinds-wide, map-append}
 use Rattle.checks.specs.declared.Node.{Node}
 
 -- a test of every node tests the root
@@ -90,7 +91,7 @@ module _ {s : List ℕ} {at : ℕ} {i out : Node} (m : GroupMade s at i out) (co
 
   module _ (w : everyNode nodeWithin p ≡ true) (c : everyNode nodeColumns p ≡ true) where
     begins : take (length (kinds p)) (i .kinds) ≡ map kindNumber (kinds p)
-    begins = ap (λ (n : ℕ). take n (i .kinds)) (kinds-wide p) ∙ d .kinded w c
+    begins = ap (λ (n : ℕ). take n (i .kinds)) (kinds-long p) ∙ d .kinded w c
 
     weights-group : nodeColumns (group cols aggs p) ≡ true → groupWeightsAt s at (i .split) (i .kinds) ≡ nodeWeights (group cols aggs p)
     unfolding groupWeightsAt nodeWeights
@@ -98,7 +99,7 @@ module _ {s : List ℕ} {at : ℕ} {i out : Node} (m : GroupMade s at i out) (co
         rw (d .parted)
         (ap (λ (k : ℕ). weightsAt s (at + 3 + byte s (at + 1)) k (leftWidth p) (i .kinds)) (group-aggregates s at cols aggs h)
         ∙ weights-tree (i .kinds) p begins (left-some p w) s (at + 3 + byte s (at + 1)) aggs (aggregates-held s at cols aggs h)
-        (subst (λ (k : ℕ). all (λ (a : Aggregate). columnsThere k (columnsRead a)) aggs ≡ true) (sym (kinds-wide p)) (read n)))
+        (subst (λ (k : ℕ). all (λ (a : Aggregate). columnsThere k (columnsRead a)) aggs ≡ true) (sym (kinds-long p)) (read n)))
 
     kinds-group : nodeWithin (group cols aggs p) ≡ true → nodeColumns (group cols aggs p) ≡ true
         → take (width (group cols aggs p)) (out .kinds) ≡ map kindNumber (kinds (group cols aggs p))
@@ -109,10 +110,10 @@ module _ {s : List ℕ} {at : ℕ} {i out : Node} (m : GroupMade s at i out) (co
         let b : byte s (at + 2) ≡ length aggs = group-aggregates s at cols aggs h in
         let front : columnKindsAt s (at + 3) (length cols) (i .kinds) ≡ map kindNumber (map (kindAt (kinds p)) cols) =
         column-kinds-tree (i .kinds) (kinds p) begins s (at + 3) cols (columns-held s at cols aggs h)
-        (subst (λ (k : ℕ). columnsThere k cols ≡ true) (sym (kinds-wide p)) (named n)) in
+        (subst (λ (k : ℕ). columnsThere k cols ≡ true) (sym (kinds-long p)) (named n)) in
         let back : aggregateKindsAt s (at + 3 + byte s (at + 1)) (length aggs) (i .kinds) ≡ map kindNumber (map (aggregateKind (kinds p)) aggs) =
         aggregate-kinds-tree (i .kinds) (kinds p) begins s (at + 3 + byte s (at + 1)) aggs (aggregates-held s at cols aggs h)
-        (subst (λ (k : ℕ). all (λ (a : Aggregate). columnsThere k (columnsRead a)) aggs ≡ true) (sym (kinds-wide p)) (read n)) in
+        (subst (λ (k : ℕ). all (λ (a : Aggregate). columnsThere k (columnsRead a)) aggs ≡ true) (sym (kinds-long p)) (read n)) in
         ap (λ (k : ℕ). take k (out .kinds)) (let q : length cols + length aggs ≡ byte s (at + 1) + byte s (at + 2) = omega arith in q)
         ∙ m .kinded (omega arith)
         ∙ ap (λ (k : ℕ). columnKindsAt s (at + 3) k (i .kinds) ++ aggregateKindsAt s (at + 3 + byte s (at + 1)) (byte s (at + 2)) (i .kinds)) a

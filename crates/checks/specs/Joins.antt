@@ -2,20 +2,22 @@
 use mathlib.Core.Path.{_≡_, refl, sym, ap, _∙_}
 use mathlib.Core.Logic.{_⊎_, inl, inr, ⊎-elim}
 use mathlib.Core.Bool.{Bool, true, _&&_}
-use mathlib.Core.List.{List, [], _∷_, _++_, map}
+use mathlib.Core.List.{List, [], _++_, map}
 use Prim.Native.Nat.{ℕ, _+_, _*_, _≤_}
 use lib.Dec.{eqb, leb}
-use lib.ListN.{length, take, length-append, length-map, length-replicate}
+use lib.ListN.{length, take}
 use borrow.Author.Tests.{leb-true, eqb-true}
 use Rattle.meaning.specs.Limits.{mostColumns, upTo}
 use Rattle.meaning.specs.Cells.{Cell}
-use Rattle.meaning.specs.Plans.{Pair, Join, inner, leftOuter, fullOuter, leftDefaults, rightDefaults, Plan, leaf, join, group}
+use Rattle.meaning.specs.Plans.{Pair, Join, inner, leftOuter, fullOuter, leftDefaults, rightDefaults, Plan, join}
 use Rattle.meaning.specs.Rules.{Kind}
-use Rattle.meaning.specs.Columns.{width, kinds, nodes, kindAt, aggregateKind}
+use Rattle.meaning.specs.Columns.{width, kinds, nodes}
 use Rattle.meaning.specs.Arrangement.{inRow, cellBytes, joinNumber, joinBytes}
 use Rattle.meaning.specs.Check.{everyNode, pairsWithin, nodeWithin, pairsThere, defaultsThere, nodeColumns, defaultsRight, nodeWeights, leftWidth}
+use Rattle.meaning.proofs.Widths.{kinds-long}
+use Rattle.lists.specs.Each.{map-append}
+use Rattle.lists.specs.Tests.{and-left, and-right}
 use Rattle.node_bytes.specs.Holding.{Holds}
-use Rattle.node_bytes.specs.Rows.{and-left, and-right}
 use Rattle.node_bytes.specs.Nodes.{byte}
 use Rattle.arrangement.proofs.Roots.{join-number, join-pairs, join-lefts, join-rights, pairs-held, lefts-held, rights-held}
 use Rattle.node_checks.specs.Weights.{kindNumber, defaultsAt}
@@ -24,19 +26,6 @@ use Rattle.node_checks.specs.Numbers.{joinWithinAt, countsRight, joinColumnsAt,
 use Rattle.checks.specs.Verdicts.{numberOf, treeNumber, lesser, verdict, inputs-law, tree-join, not-two, not-three, verdict-same}
 use Rattle.checks.specs.Describing.{Described}
 use Rattle.checks.specs.declared.Node.{Node}
-
--- a plan has as many kinds as columns
-pub kinds-wide : (p : Plan) → length (kinds p) ≡ width p
-unfolding kinds width
-kinds-wide (leaf t w) = length-replicate w _
-kinds-wide (join j ps l r) = length-append (kinds l) (kinds r) ∙ (let a = kinds-wide l in let b = kinds-wide r in cc)
-kinds-wide (group cols aggs i) =
-    length-append (map (kindAt (kinds i)) cols) (map (aggregateKind (kinds i)) aggs)
-    ∙ (let a = length-map cols (kindAt (kinds i)) in let b = length-map aggs (aggregateKind (kinds i)) in cc)
-
-pub map-append : {A B : Type 0} (f : A → B) (xs ys : List A) → map f (xs ++ ys) ≡ map f xs ++ map f ys
-map-append f [] ys = refl
-map-append f (x ∷ xs) ys = ap (λ (l : List _). f x ∷ l) (map-append f xs ys)
 
 -- the counts of defaults are those that the kind of join asks
 counts-tree : (j : Join) (l r : ℕ) → countsRight (joinNumber j) (length (leftDefaults j)) l (length (rightDefaults j)) r ≡ defaultsThere j l r
@@ -102,9 +91,9 @@ module _ {s : List ℕ} {at : ℕ} {l r out : Node} (m : JoinMade s at l r out) 
   unfolding joinWeightsAt nodeWeights
   weights-tree pw pc qw qc there =
       let left = side-tree s (at + 4 + 2 * byte s (at + 1)) (byte s (at + 2)) (leftDefaults j) (l .kinds) (kinds p) (join-lefts s at j ps h) (lefts-held s at j ps h)
-      (ap (λ (n : ℕ). take n (l .kinds)) (kinds-wide p) ∙ dl .kinded pw pc) (⊎-elim inl (λ e. inr (e ∙ sym (kinds-wide p))) (lefts-long j (width p) (width q) there)) in
+      (ap (λ (n : ℕ). take n (l .kinds)) (kinds-long p) ∙ dl .kinded pw pc) (⊎-elim inl (λ e. inr (e ∙ sym (kinds-long p))) (lefts-long j (width p) (width q) there)) in
       let right = side-tree s (at + 4 + 2 * byte s (at + 1) + 9 * byte s (at + 2)) (byte s (at + 3)) (rightDefaults j) (r .kinds) (kinds q) (join-rights s at j ps h) (rights-held s at j ps h)
-      (ap (λ (n : ℕ). take n (r .kinds)) (kinds-wide q) ∙ dr .kinded qw qc) (⊎-elim inl (λ e. inr (e ∙ sym (kinds-wide q))) (rights-long j (width p) (width q) there)) in
+      (ap (λ (n : ℕ). take n (r .kinds)) (kinds-long q) ∙ dr .kinded qw qc) (⊎-elim inl (λ e. inr (e ∙ sym (kinds-long q))) (rights-long j (width p) (width q) there)) in
       cc
 
   there : nodeColumns (join j ps p q) ≡ true → defaultsThere j (width p) (width q) ≡ true

@@ -3,7 +3,6 @@ use mathlib.Core.Path.{_≡_, refl, sym, ap, subst, _∙_}
 use mathlib.Core.List.{List, [], _∷_, _++_, append-assoc, append-nil}
 use Prim.Native.Nat.{ℕ, zero, suc, _+_, _-_, _*_, _<_, _≤_, _^_}
 use native.Mathlib.Omega.{arith}
-use lib.Dec.{eqb, eqb→eq}
 use lib.ListN.{length, getD}
 use lib.IntN.{ℤ, pos}
 use Rattle.meaning.specs.Plans.{Row, Table, Name, Aggregate, nameOf, columnsRead}
@@ -11,8 +10,8 @@ use Rattle.meaning.specs.Joining.{cell}
 use Rattle.meaning.specs.Aggregating.{valuesOf}
 use Rattle.meaning.specs.Arrangement.{nameNumber}
 use Rattle.meaning.specs.Running.{cellsFrom, rowsFrom, cellNumber, cellMark}
-use Rattle.rules.specs.Below.{below}
-use Rattle.rules.specs.Lines.{nameAt, names}
+use Rattle.arrangement.proofs.Items.{number-name}
+use Rattle.rules.specs.Lines.{nameAt}
 use Rattle.regions.specs.Holding.{Held, HeldRows, held-number, held-mark, held-cells-fit, held-marks-fit, row-held}
 use Rattle.regions.specs.Reading.{cells-long, rows-long, row-at}
 use Rattle.running.specs.declared.Running.{Running}
@@ -48,11 +47,6 @@ module _ (n : Name) (v c : ℕ) where
 most-front : (n : Name) (xs ys : List ℤ) → mostOf n (xs ++ ys) < 2 ^ 63 → mostOf n xs < 2 ^ 63
 most-front n xs ys h = omega (arith, most-append n xs ys)
 
--- the number of a name that there is
-pub name-number : (n : ℕ) → n < 9 → nameNumber (nameAt n) ≡ n
-unfolding nameNumber nameAt names
-name-number n h = eqb→eq _ _ (below (λ (k : ℕ). eqb (nameNumber (nameAt k)) k) 9 tt n h)
-
 -- rows behind others
 pub rows-append : (cs : List ℤ) (ms : List ℕ) (w at n k : ℕ) → rowsFrom cs ms w at (n + k) ≡ rowsFrom cs ms w at n ++ rowsFrom cs ms w (at + n * w) k
 unfolding rowsFrom
@@ -85,10 +79,10 @@ module _ {name v c : ℕ} {cells : List ℤ} {marks : List ℕ} {base rows w : �
   -- nothing fed yet
   pub fed-none : {st : Running} → st ≡ startOf name → Fed name v c cells marks base 0 w st
   unfolding rowsFrom valuesBy
-  fed-none e = rw (e, sym (name-number name (room .known))) (rw nameAt-own (took-none (nameAt name)))
+  fed-none e = rw (e, sym (number-name name (room .known))) (rw nameAt-own (took-none (nameAt name)))
     where
       nameAt-own : nameAt (nameNumber (nameAt name)) ≡ nameAt name
-      nameAt-own = ap nameAt (name-number name (room .known))
+      nameAt-own = ap nameAt (number-name name (room .known))
 
   module _ (k : ℕ) (l : k < rows) where
     abbrev row : Row

@@ -16,11 +16,12 @@ use Rattle.meaning.specs.Aggregating.{valuesOf, aggregate}
 use Rattle.meaning.specs.Grouping.{key, groupRow, groupRows}
 use Rattle.meaning.specs.Check.{all, columnsThere}
 use Rattle.meaning.specs.Running.{cellsFrom, rowsFrom}
-use Rattle.node_bytes.specs.Rows.{and-left, and-right, every, length-list}
+use Rattle.lists.specs.Each.{Each, each-to, each-at, all-each}
+use Rattle.lists.specs.Tests.{and-left, and-right}
+use Rattle.node_bytes.specs.Rows.{every, length-list}
 use Rattle.node_bytes.specs.Nodes.{byte, aggregateGood, aggregatesGood, groupSize, groupGood}
 use Rattle.arrangement.proofs.Items.{aggregateAt}
 use Rattle.arrangement.proofs.Roots.{columnsFrom, aggregatesFrom}
-use Rattle.ranges.proofs.Lists.{Each, each-at, each-to, all-each}
 use Rattle.regions.specs.Keeping.{kept-all}
 use Rattle.regions.specs.Holding.{Held, HeldRows, Untouched, rows-none, rows-more}
 use Rattle.regions.specs.Reading.{rows-long, row-at}

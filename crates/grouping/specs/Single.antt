@@ -16,14 +16,14 @@ use Rattle.meaning.specs.Joining.{cell}
 use Rattle.meaning.specs.Aggregating.{valuesOf, aggregate}
 use Rattle.meaning.specs.Arrangement.{nameNumber, twoPlaces, aggregateBytes}
 use Rattle.meaning.specs.Running.{rowsFrom, cellNumber, cellMark}
+use Rattle.lists.specs.Tests.{and-left, and-right}
 use Rattle.numbers.specs.Integers.{false-true}
 use Rattle.rules.specs.Lines.{nameAt, nameAt-number}
 use Rattle.node_bytes.specs.Holding.{holds-head}
 use Rattle.node_bytes.specs.Widths.{aggregate-wide}
-use Rattle.node_bytes.specs.Rows.{and-left, and-right, listAt}
+use Rattle.node_bytes.specs.Rows.{listAt}
 use Rattle.node_bytes.specs.Nodes.{byte, aggregateGood}
-use Rattle.arrangement.proofs.Items.{aggregateAt, aggregate-holds}
-use Rattle.regions.specs.Keeping.{kept-all}
+use Rattle.arrangement.proofs.Items.{aggregateAt, aggregate-holds, number-name}
 use Rattle.regions.specs.Holding.{HeldRows, Untouched}
 use Rattle.regions.specs.Reading.{rows-long, rows-read}
 use Rattle.running.specs.declared.Running.{Running}
@@ -34,9 +34,9 @@ use Rattle.running.specs.Rows.{Gives, nothing, one, gives}
 use Rattle.running.specs.Sizes.{mostOf}
 use Rattle.running.specs.Laws.{Took, took-finish}
 use Rattle.sorting.specs.Sorting.{SortOf, SortRoom, SortDone}
-use Rattle.regions.specs.Rows.{untouched-then, untouched-wider}
+use Rattle.regions.specs.Rows.{untouched-then, untouched-wider, untouched-none}
 use Rattle.grouping.specs.Picking.{PickRoom, PickDone, columnPlace, columnOf, column-long, column-held, picked-untouched}
-use Rattle.grouping.specs.Feeding.{valuesBy, values-by, name-number, FeedRoom, Fed}
+use Rattle.grouping.specs.Feeding.{valuesBy, values-by, FeedRoom, Fed}
 use Rattle.grouping.specs.Sorted.{ByColumn, overColumn, by-column}
 
 -- ---- when a copy is sorted, and how much room that takes
@@ -165,9 +165,6 @@ short-up n v c [] l = refl
 short-up n v c (r ∷ []) l = given-up (gives n (cell r v) (cell r c))
 short-up n v c (r ∷ q ∷ t) l = absurd (omega arith)
 
-untouched-all : {cells : List ℤ} {marks : List ℕ} {from to : ℕ} → Untouched cells marks cells marks from to
-untouched-all = record { cells-kept = kept-all; marks-kept = kept-all }
-
 module _ {s : List ℕ} {at : ℕ} {cells : List ℤ} {marks : List ℕ} {base n w scratch : ℕ} (room : StateRoom s at cells marks base n w scratch) where
   abbrev t : Table
   t = rowsFrom cells marks w base n
@@ -192,7 +189,7 @@ module _ {s : List ℕ} {at : ℕ} {cells : List ℤ} {marks : List ℕ} {base n
     where
       pick : (b : Bool) → ltb n 2 ≡ b → (not b && distinctOf (byte s at)) ≡ false → upwards (valuesBy (nameAt (byte s at)) (byte s (at + 1)) (byte s (at + 2)) t) ≡ true
       pick true l f = short-up (nameAt (byte s at)) (byte s (at + 1)) (byte s (at + 2)) t (omega (arith, ltb-true n 2 l, long))
-      pick false l f = false-true (sym f ∙ (rw (name-number (byte s at) known) at d))
+      pick false l f = false-true (sym f ∙ (rw (number-name (byte s at) known) at d))
 
   pub plain-room : {b : Bool} → b ≡ needsOrder (byte s at) n → b ≡ false → FeedRoom (byte s at) (byte s (at + 1)) (byte s (at + 2)) cells marks base n w
   plain-room e f = record {
@@ -206,7 +203,7 @@ module _ {s : List ℕ} {at : ℕ} {cells : List ℤ} {marks : List ℕ} {base n
 
   pub plain-done : {st : Running} → Fed (byte s at) (byte s (at + 1)) (byte s (at + 2)) cells marks base n w st → StateDone s at cells marks cells marks base n w scratch st
   plain-done k = record {
-    kept = untouched-all;
+    kept = untouched-none;
     answers = took-answers a t (rw (values-here s at (room .fits .inside) (room .fits .good) t, named) at k);
   }
 

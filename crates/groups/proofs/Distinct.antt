@@ -11,7 +11,9 @@ use Rattle.meaning.specs.Plans.{Row, Table, Name, DistinctSum, DistinctCount, A
 use Rattle.meaning.specs.Joining.{cell, any}
 use Rattle.meaning.specs.Aggregating.{value, taken, valuesOf, total, into, ascending, madeOf, answer, aggregate}
 use Rattle.meaning.specs.Grouping.{key, belowKey}
-use Rattle.groups.proofs.Lists.{clash, or-left, neither, Every, every-so, every-each, any-append, any-same}
+use Rattle.lists.specs.Equality.{any-same}
+use Rattle.lists.specs.Each.{Each, each-to, any-append, each}
+use Rattle.lists.specs.Tests.{clash, or-left, neither}
 use Rattle.groups.proofs.Orders.{Rises, at-rises, rises-at, insert, inOrder, in-order-same, has-in-order, whole-order}
 use Rattle.groups.proofs.Keys.{key-equality}
 use Rattle.groups.proofs.Grouped.{Ascends, Stable, same-rows}
@@ -31,7 +33,7 @@ ascending-in-order (x ∷ xs) = into-inserts x (ascending xs) ∙ ap (insert ltZ
 pub ascending-same : (xs ys : List ℤ) → ((z : ℤ) → any (eqZ z) xs ≡ any (eqZ z) ys) → ascending xs ≡ ascending ys
 ascending-same xs ys h =
     ascending-in-order xs
-    ∙ in-order-same whole-order xs ys (every-each (λ (z : ℤ). Unit {0}) (λ z. tt) xs) (every-each (λ (z : ℤ). Unit {0}) (λ z. tt) ys) h
+    ∙ in-order-same whole-order xs ys (each (λ (z : ℤ). Unit {0}) (λ z. tt) xs) (each (λ (z : ℤ). Unit {0}) (λ z. tt) ys) h
     ∙ sym (ascending-in-order ys)
 
 -- ---- the values of rows in another order
@@ -51,7 +53,7 @@ ascending-values cols a u t h =
 some-ascending : (x : ℤ) (xs : List ℤ) → ascending (x ∷ xs) ≡ ascending [] → ⊥
 unfolding any ascending
 some-ascending x xs e =
-    clash (sym (or-left (eqZ x x) (any (eqZ x) xs) (whole-order .equal .self x)) ∙ sym (has-in-order whole-order x (x ∷ xs)) ∙ ap (any (eqZ x)) (sym (ascending-in-order (x ∷ xs)) ∙ e))
+    clash refl (sym (or-left (eqZ x x) (any (eqZ x) xs) (whole-order .equal .self x)) ∙ sym (has-in-order whole-order x (x ∷ xs)) ∙ ap (any (eqZ x)) (sym (ascending-in-order (x ∷ xs)) ∙ e))
 
 answer-ascending : (n : Name) (g : List ℤ → ℤ) → ((x : ℤ) (xs : List ℤ) → madeOf n x xs ≡ g (ascending (x ∷ xs)))
     → (xs ys : List ℤ) → ascending xs ≡ ascending ys → answer n xs ≡ answer n ys
@@ -88,12 +90,12 @@ unfolding belowKey key
 not-below v r s h = neither (below (cell r v) (cell s v)) (groups (cell r v) (cell s v) && false) h .0
 
 module _ (v : ℕ) (a : Aggregate) (reads : (r : Row) → taken a r ≡ value (cell r v)) where
-  none-below : (z : ℤ) (rs : Table) → Every (λ (r : Row). below (cell r v) (num z) ≡ false) rs → Every (λ (y : ℤ). ltZ y z ≡ false) (valuesOf a rs)
+  none-below : (z : ℤ) (rs : Table) → Each (λ (r : Row). below (cell r v) (num z) ≡ false) rs → Each (λ (y : ℤ). ltZ y z ≡ false) (valuesOf a rs)
   unfolding valuesOf value below
   none-below z [] h = tt
   none-below z (r ∷ rs) h = rw (reads r) (step (cell r v) (h .0) (none-below z rs (h .1)))
     where
-      step : (c : Cell) → below c (num z) ≡ false → Every (λ (y : ℤ). ltZ y z ≡ false) (valuesOf a rs) → Every (λ (y : ℤ). ltZ y z ≡ false) (value c ++ valuesOf a rs)
+      step : (c : Cell) → below c (num z) ≡ false → Each (λ (y : ℤ). ltZ y z ≡ false) (valuesOf a rs) → Each (λ (y : ℤ). ltZ y z ≡ false) (value c ++ valuesOf a rs)
       step null n i = i
       step (num y) n i = (n, i)
 
@@ -103,10 +105,10 @@ module _ (v : ℕ) (a : Aggregate) (reads : (r : Row) → taken a r ≡ value (c
   rising-values (r ∷ rs) h =
       rw (reads r)
       (step (cell r v)
-      (every-so (λ (s : Row). belowKey (key (v ∷ []) s) (key (v ∷ []) r) ≡ false) (λ (s : Row). below (cell s v) (cell r v) ≡ false) (λ s n. not-below v s r n) rs (h .0))
+      (each-to (λ (s : Row). belowKey (key (v ∷ []) s) (key (v ∷ []) r) ≡ false) (λ (s : Row). below (cell s v) (cell r v) ≡ false) (λ s n. not-below v s r n) rs (h .0))
       (rising-values rs (h .1)))
     where
-      step : (c : Cell) → Every (λ (s : Row). below (cell s v) c ≡ false) rs → Rises ltZ (valuesOf a rs) → Rises ltZ (value c ++ valuesOf a rs)
+      step : (c : Cell) → Each (λ (s : Row). below (cell s v) c ≡ false) rs → Rises ltZ (valuesOf a rs) → Rises ltZ (value c ++ valuesOf a rs)
       step null n i = i
       step (num z) n i = (none-below z rs n, i)
 

@@ -1,5 +1,4 @@
 -- A grouping is the runs of its sorted rows, and a distinct aggregate needs its rows in no order.
-pub mod Lists
 pub mod Orders
 pub mod Keys
 pub mod Runs

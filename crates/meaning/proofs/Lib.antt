@@ -1,5 +1,6 @@
--- The worked depot and the published examples, computed from the definitions.
+-- The worked depot and the published examples, computed from the definitions; `Widths` has what later crates ask of them.
 pub mod Claims
 pub mod Depot
 pub mod Published
 pub mod Worked
+pub mod Widths

@@ -9,16 +9,8 @@ use native.Mathlib.Omega.{arith}
 use lib.ListN.{length, length-append}
 use Rattle.meaning.specs.Arrangement.{inRow}
 use Rattle.meaning.specs.Check.{all}
+use Rattle.lists.specs.Tests.{and-left, and-right}
 use Rattle.node_bytes.specs.Holding.{Holds, holds-front, holds-back, holds-both, holds-to}
-
--- both of two tests that pass together
-pub and-left : (a b : Bool) → (a && b) ≡ true → a ≡ true
-and-left true b e = refl
-and-left false b e = e
-
-pub and-right : (a b : Bool) → (a && b) ≡ true → b ≡ true
-and-right true b e = e
-and-right false b e = let z : _≡_ {A = ℕ} 0 1 = cc in absurd (omega arith)
 
 -- a test of n things, each k behind the one before
 unfoldable pub every : (ℕ → Bool) → ℕ → ℕ → ℕ → Bool

@@ -14,10 +14,11 @@ use Rattle.meaning.specs.Arrangement.{cellBytes, inRow, pairBytes, twoPlaces, a
 use Rattle.meaning.specs.Rules.{Kind, plain, weight, rule}
 use Rattle.meaning.specs.Columns.{width, ruleKind, kindAt, aggregateKind, kinds}
 use Rattle.meaning.specs.Check.{all, pairsThere, columnsThere, distinct, defaultsRight, isWeight, leftWidth, isJoin, weightPlaced, aggregateRight}
+use Rattle.lists.specs.Tests.{and-left, and-right}
 use Rattle.rules.specs.Lines.{isAlways, entryOf}
 use Rattle.node_bytes.specs.Holding.{Holds, holds-head, holds-front, holds-back, holds-to}
 use Rattle.node_bytes.specs.Nodes.{byte}
-use Rattle.node_bytes.specs.Rows.{every-all, and-left, and-right, every-known, list-known}
+use Rattle.node_bytes.specs.Rows.{every-all, every-known, list-known}
 use Rattle.node_checks.specs.Columns.{pairAt, pairsAt, columnAt, columnsAt, otherAt, absentAt, distinctAt, readAt, readsAt}
 use Rattle.node_checks.specs.Weights.{kindNumber, defaultAt, defaultsAt, weightAt, weightsAt, columnKindAt, columnKindsAt, aggregateKindAt, aggregateKindsAt}
 use Rattle.node_bytes.specs.Widths.{pair-wide, column-wide, aggregate-wide, cell-wide}

@@ -1,7 +1,6 @@
 -- The bounds of every node of a plan, over the caps of its leaves.
 -- `Nodes` has the theorem over any caps, `Ranges` the one of the limits, and `Fits` what it means for a cell.
 pub mod Integers
-pub mod Lists
 pub mod Sums
 pub mod Widths
 pub mod Joins

@@ -7,7 +7,7 @@ use native.Mathlib.Nat.{mul-add}
 use native.Mathlib.Omega.{arith}
 use lib.ListN.{length}
 use Rattle.meaning.specs.Joining.{keep}
-use Rattle.ranges.proofs.Lists.{Each}
+use Rattle.lists.specs.Each.{Each}
 
 -- the sum of a function over a list
 unfoldable pub sumOf : {A : Type 0} → (A → ℕ) → List A → ℕ

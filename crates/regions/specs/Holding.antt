@@ -10,6 +10,7 @@ use lib.IntN.{ℤ, pos}
 use Rattle.meaning.specs.Cells.{null}
 use Rattle.meaning.specs.Plans.{Row, Table}
 use Rattle.meaning.specs.Running.{cellNumber, cellMark, flat}
+use Rattle.lists.specs.Each.{map-append}
 use Rattle.node_bytes.specs.Holding.{Span, holds-front, holds-back, holds-both, holds-to}
 use Rattle.regions.specs.Keeping.{Kept, span-below, span-above}
 use Rattle.regions.specs.Copying.{Copied, CopiedWithin, copied-span}
@@ -23,10 +24,6 @@ pub record Held (cells : List ℤ) (marks : List ℕ) (at : ℕ) (xs : Row) : Ty
 pub record Untouched (cells : List ℤ) (marks : List ℕ) (cells′ : List ℤ) (marks′ : List ℕ) (from to : ℕ) : Type 0 where
   pub cells-kept : Kept (pos 0) cells cells′ from to
   pub marks-kept : Kept 0 marks marks′ from to
-
-map-append : {A B : Type 0} (f : A → B) (xs ys : List A) → map f (xs ++ ys) ≡ map f xs ++ map f ys
-map-append f [] ys = refl
-map-append f (x ∷ xs) ys = ap (λ (l : List _). f x ∷ l) (map-append f xs ys)
 
 -- an element of a mapped list, whatever is read past its end
 pub getD-map : {A B : Type 0} (f : A → B) (d : B) (e : A) (xs : List A) (i : ℕ) → i < length xs → getD (map f xs) i d ≡ f (getD xs i e)

@@ -15,8 +15,8 @@ use Rattle.meaning.specs.Limits.{mostSize}
 use Rattle.meaning.specs.Cells.{Cell, null, num, eqZ}
 use Rattle.meaning.specs.Plans.{Row, Table}
 use Rattle.meaning.specs.Running.{cellFrom, cellsFrom, rowsFrom, cellRight, cellsRight, cellNumber, cellMark, flat, onto}
+use Rattle.lists.specs.Tests.{and-left, and-right}
 use Rattle.node_bytes.specs.Holding.{Span}
-use Rattle.node_bytes.specs.Rows.{and-left, and-right}
 use Rattle.regions.specs.Copying.{Copied, CopiedIn, copied-span}
 use Rattle.regions.specs.Holding.{Held, HeldRows, held-number, held-mark, held-front, held-back, held-to, getD-map}
 

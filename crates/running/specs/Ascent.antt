@@ -7,6 +7,7 @@ use lib.Signed.{ltZ}
 use borrow.Author.Tests.{not-true}
 use Rattle.meaning.specs.Cells.{eqZ}
 use Rattle.meaning.specs.Aggregating.{into, ascending}
+use Rattle.lists.specs.Tests.{and-left, and-right}
 use Rattle.numbers.specs.Integers.{lt-irrefl, nlt-trans, nlt-lt-trans}
 use Rattle.numbers.specs.Same.{eqZ-refl}
 
@@ -28,14 +29,6 @@ unfoldable pub lastOf : List ℤ → ℤ
 lastOf [] = pos 0
 lastOf (x ∷ xs) = lastFrom x xs
 
-both-left : (a b : Bool) → (a && b) ≡ true → a ≡ true
-both-left true b e = refl
-both-left false b e = e
-
-both-right : (a b : Bool) → (a && b) ≡ true → b ≡ true
-both-right true b e = e
-both-right false b e = cc
-
 -- one value more is the last
 last-from-more : (x : ℤ) (xs : List ℤ) (z : ℤ) → lastFrom x (xs ++ z ∷ []) ≡ z
 unfolding lastFrom
@@ -52,30 +45,30 @@ pub upwards-front : (x : ℤ) (xs ys : List ℤ) → upwardsFrom x (xs ++ ys) �
 unfolding upwardsFrom
 upwards-front x [] ys h = refl
 upwards-front x (y ∷ xs) ys h =
-    rw (both-left (not (ltZ y x)) (upwardsFrom y (xs ++ ys)) h)
-    (upwards-front y xs ys (both-right (not (ltZ y x)) (upwardsFrom y (xs ++ ys)) h))
+    rw (and-left (not (ltZ y x)) (upwardsFrom y (xs ++ ys)) h)
+    (upwards-front y xs ys (and-right (not (ltZ y x)) (upwardsFrom y (xs ++ ys)) h))
 
 -- one value more is not below the last; and what is not may come next
 pub upwards-last : (x : ℤ) (xs : List ℤ) (z : ℤ) → upwardsFrom x (xs ++ z ∷ []) ≡ true → ltZ z (lastFrom x xs) ≡ false
 unfolding upwardsFrom lastFrom
-upwards-last x [] z h = not-true (ltZ z x) (both-left (not (ltZ z x)) true h)
-upwards-last x (y ∷ ys) z h = upwards-last y ys z (both-right (not (ltZ y x)) (upwardsFrom y (ys ++ z ∷ [])) h)
+upwards-last x [] z h = not-true (ltZ z x) (and-left (not (ltZ z x)) true h)
+upwards-last x (y ∷ ys) z h = upwards-last y ys z (and-right (not (ltZ y x)) (upwardsFrom y (ys ++ z ∷ [])) h)
 
 pub upwards-more : (x : ℤ) (xs : List ℤ) (z : ℤ) → upwardsFrom x xs ≡ true → ltZ z (lastFrom x xs) ≡ false
     → upwardsFrom x (xs ++ z ∷ []) ≡ true
 unfolding upwardsFrom lastFrom
 upwards-more x [] z h k = rw k
 upwards-more x (y ∷ ys) z h k =
-    rw (both-left (not (ltZ y x)) (upwardsFrom y ys) h)
-    (upwards-more y ys z (both-right (not (ltZ y x)) (upwardsFrom y ys) h) k)
+    rw (and-left (not (ltZ y x)) (upwardsFrom y ys) h)
+    (upwards-more y ys z (and-right (not (ltZ y x)) (upwardsFrom y ys) h) k)
 
 -- the last is not below the first
 first-last : (x : ℤ) (xs : List ℤ) → upwardsFrom x xs ≡ true → ltZ (lastFrom x xs) x ≡ false
 unfolding upwardsFrom lastFrom
 first-last x [] h = lt-irrefl x
 first-last x (y ∷ ys) h =
-    nlt-trans (lastFrom y ys) y x (first-last y ys (both-right (not (ltZ y x)) (upwardsFrom y ys) h))
-    (not-true (ltZ y x) (both-left (not (ltZ y x)) (upwardsFrom y ys) h))
+    nlt-trans (lastFrom y ys) y x (first-last y ys (and-right (not (ltZ y x)) (upwardsFrom y ys) h))
+    (not-true (ltZ y x) (and-left (not (ltZ y x)) (upwardsFrom y ys) h))
 
 -- a value goes in before a greater last one
 into-pick : (x w z : ℤ) (ws vs us : List ℤ) (a b : Bool) → us ≡ vs ++ z ∷ []
@@ -95,7 +88,7 @@ pub ascending-new : (x : ℤ) (xs : List ℤ) (z : ℤ) → upwardsFrom x xs ≡
 unfolding ascending upwardsFrom lastFrom into
 ascending-new x [] z h k = into-more x [] z k
 ascending-new x (y ∷ ys) z h k =
-    ap (into x) (ascending-new y ys z (both-right (not (ltZ y x)) (upwardsFrom y ys) h) k)
+    ap (into x) (ascending-new y ys z (and-right (not (ltZ y x)) (upwardsFrom y ys) h) k)
     ∙ into-more x (ascending (y ∷ ys)) z (nlt-lt-trans x (lastFrom y ys) z (first-last x (y ∷ ys) h) k)
 
 pub ascending-same : (x : ℤ) (xs : List ℤ) (z : ℤ) → lastFrom x xs ≡ z → ascending ((x ∷ xs) ++ z ∷ []) ≡ ascending (x ∷ xs)

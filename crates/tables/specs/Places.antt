@@ -16,7 +16,8 @@ use borrow.Author.Tests.{ltb-true, ltb-false, lt-ltb, le-ltb, leb-true, le-leb, 
 use Rattle.meaning.specs.Limits.{mostRows, mostSize}
 use Rattle.meaning.specs.Cells.{eqZ}
 use Rattle.meaning.specs.Running.{Place, placesIn, lentOf, nowhere, cellRight, cellsRight, placeRight, insideRun}
-use Rattle.node_bytes.specs.Rows.{and-left, and-right, every}
+use Rattle.lists.specs.Tests.{and-left, and-right}
+use Rattle.node_bytes.specs.Rows.{every}
 
 -- the table whose three numbers stand at a place
 unfoldable pub placeAt : List ℕ → ℕ → Place
