@@ -219,34 +219,23 @@ class Lending(Compared):
 class Damaged(Compared):
     """Every damage of every kind to a case, one at a time."""
 
-    def compare_all(self, kind, cases):
-        seen = collections.Counter(self.compare(damaged) for case in cases for damaged in kind(case))
-        self.assertGreater(len(seen), 1, f"only {seen}")
-        return seen
+    # each kind, and to every how many-th of the small cases it is done
+    KINDS = {
+        damage.tables: 12,
+        damage.table_lists: 3,
+        damage.leaves: 6,
+        damage.cells: 50,
+        damage.marks: 40,
+        damage.runs: 4,
+        damage.limits: 12,
+        damage.areas: 6,
+    }
 
-    def test_tables(self):
-        self.compare_all(damage.tables, SMALL[::12])
-
-    def test_table_lists(self):
-        self.compare_all(damage.table_lists, SMALL[::3])
-
-    def test_leaves(self):
-        self.compare_all(damage.leaves, SMALL[::6])
-
-    def test_cells(self):
-        self.compare_all(damage.cells, SMALL[::50])
-
-    def test_marks(self):
-        self.compare_all(damage.marks, SMALL[::40])
-
-    def test_runs(self):
-        self.compare_all(damage.runs, SMALL[::4])
-
-    def test_limits(self):
-        self.compare_all(damage.limits, SMALL[::12])
-
-    def test_areas(self):
-        self.compare_all(damage.areas, SMALL[::6])
+    def test_kinds(self):
+        for kind, step in self.KINDS.items():
+            with self.subTest(kind.__name__):
+                seen = collections.Counter(self.compare(damaged) for case in SMALL[::step] for damaged in kind(case))
+                self.assertGreater(len(seen), 1, f"only {seen}")
 
     def test_two_damages(self):
         chance = random.Random(SEED)
