@@ -1,4 +1,4 @@
-/* The plans of the benchmark by hand in C, with the loops of a run: the measure that a run is held against.
+/* The plans of the benchmark by hand in C, each with nested loops of its own: the measure that a run is held against.
  *
  * A twin takes the tables as they are (refusals 1 to 6 are the library's), stops where a join has more rows than the limit, clears
  * the whole work area at its end, and gives the row count.

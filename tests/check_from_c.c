@@ -5,9 +5,6 @@
 #include <stdio.h>
 #include <string.h>
 
-/* places in plan A */
-enum { RELEASES_WIDTH = 5, PAIR_LEFT = 10, FIRST_DEFAULT = 12 };
-
 static int answers, mismatches;
 
 static void expect(const char *what, uint32_t given, uint32_t expected) {

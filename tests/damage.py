@@ -4,13 +4,13 @@ Fields are those of vectors/FORMAT.md and of lending.py.
 """
 
 import runner
+from reader import MOST_PLAIN
 
 WORD = 1 << 64
-MOST_CELL = 2_147_483_647
 # near the limits, near what wraps in 32 or 64 bits, and near where a place in bytes would
 FAR = [1_024, 1_025, 4_096, 65_536, 1 << 31, 1 << 32, 1 << 60, 1 << 61, (1 << 63) - 1, 1 << 63, WORD - 1]
-WRONG_CELLS = [MOST_CELL + 1, -MOST_CELL - 1, 1 << 32, -(1 << 32), (1 << 63) - 1, -(1 << 63)]
-EDGE_CELLS = [MOST_CELL, -MOST_CELL, 0]
+WRONG_CELLS = [MOST_PLAIN + 1, -MOST_PLAIN - 1, 1 << 32, -(1 << 32), (1 << 63) - 1, -(1 << 63)]
+EDGE_CELLS = [MOST_PLAIN, -MOST_PLAIN, 0]
 WRONG_MARKS = [2, 3, 128, 254, 255]
 
 

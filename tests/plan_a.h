@@ -24,4 +24,7 @@ static const uint8_t PLAN_A[] = {
     1, 2, 0                    /* count of age */
 };
 
+/* places in it */
+enum { UNKNOWN_NODE = 0, RELEASES_WIDTH = 5, PAIR_LEFT = 10, FIRST_DEFAULT = 12 };
+
 #endif

@@ -3,10 +3,10 @@
 from dataclasses import dataclass
 
 from arrange import AGGREGATE_NUMBERS, KIND_NUMBERS
+from reader import MOST_PLAIN
 
 AGGREGATES = list(AGGREGATE_NUMBERS)
 KINDS = list(KIND_NUMBERS)
-MOST_PLAIN = 2_147_483_647
 FAR_DEFAULTS = [MOST_PLAIN + 1, -MOST_PLAIN - 1, 2**32, 2**32 + 1, 2**63 - 1, -(2**63)]
 # the largest field of one byte
 MOST = 255

@@ -18,8 +18,8 @@ enum {
     RESULT_ROWS = 4,
     MORE_ROWS = 1025
 };
-/* places in plan A and in the lent run */
-enum { UNKNOWN_NODE = 0, RELEASES_WIDTH = 5, PAIR_LEFT = 10, FIRST_DEFAULT = 12, NULL_AGE = 11 };
+/* the place of the age that is null in the lent run */
+enum { NULL_AGE = 11 };
 
 /* What a host lends; work and result are filled before each run. */
 static struct {
@@ -68,6 +68,16 @@ static int result_holds(size_t rows, int byte) {
         && all(lent.result_marks + from, sizeof lent.result_marks - from, byte);
 }
 
+/* Whether the depot's rows stand at the front of the result area; the last one has the age at NULL_AGE alone. */
+static int depot_rows(void) {
+    int64_t cells[RESULT_ROWS * WIDTH] = {0, 2, 1, 0, 20, 0, 1, 1, 4, 24, 140, 4, 1, 2, 1, 4, 50, 1, 2, 0, 1, 0, 0, 0};
+    uint8_t marks[RESULT_ROWS * WIDTH] = {[0] = 1, [3] = 1, [19] = 1, [21] = 1, [22] = 1};
+    cells[21] = lent.cells[NULL_AGE];
+    cells[23] = !lent.marks[NULL_AGE];
+    marks[21] = lent.marks[NULL_AGE];
+    return memcmp(lent.result, cells, sizeof cells) == 0 && memcmp(lent.result_marks, marks, sizeof marks) == 0;
+}
+
 /* Runs what is lent, with a byte all over the written areas, and holds the number and the areas to what is expected. */
 static void expect(const char *what, uint32_t expected) {
     enum { FILL = 0xA5 };
@@ -81,7 +91,8 @@ static void expect(const char *what, uint32_t expected) {
                                     lent.result_length, lent.result_marks, lent.result_marks_length, &lent.rows);
     int cleared = expected == FIRUVANTA_PASS || expected == FIRUVANTA_ROWS;
     size_t rows = expected == FIRUVANTA_PASS ? RESULT_ROWS : 0;
-    int right = number == expected && lent.rows == rows && work_holds(cleared ? 0 : FILL) && result_holds(rows, FILL);
+    int right = number == expected && lent.rows == rows && work_holds(cleared ? 0 : FILL) && result_holds(rows, FILL)
+        && (rows == 0 || depot_rows());
     printf("%s: %u\n", what, (unsigned)number);
     answers++;
     if (!right) {

@@ -186,7 +186,7 @@ class Lending(Compared):
             TALLY[ran.number] += 1
 
     def test_what_the_work_area_held(self):
-        """Zeros and ones all over, and what the run before left, give the same as the patterns do."""
+        """Zeros, ones and bytes of 255 all over give the same as the patterns do."""
         for case in ACCEPTED:
             ran = runner.run(case)
             for held in (bytes(1), b"\1", b"\xff"):
@@ -380,8 +380,8 @@ class LargeRuns(Compared):
         joined = [inner([1, 0]), grouping([0, 1], ["sum", 5])]
         plan = [leaf(0, 3), grouped, grouped, leaf(1, 3), grouped, *joined, grouped, leaf(1, 3), *joined, grouped]
         self.assertEqual(len(plan), reader.MOST_NODES)
-        for limit in (4_096, 1_024, 1_023):
-            self.compare(over(plan, [left, right], limit))
+        given = [self.compare(over(plan, [left, right], limit)) for limit in (4_096, 1_024, 1_023)]
+        self.assertEqual(given, [0, 0, 7])
 
     def test_largest_sums(self):
         """2^30 joined rows stand behind one row of a pushed plan: the largest cell there is."""

@@ -85,11 +85,7 @@ fn needs_order(name: u8, rows: usize) -> bool
     if rows < 2 {
         return false;
     }
-    match name {
-        5 => true,
-        6 => true,
-        _ => false,
-    }
+    running::distinct(name)
 }
 
 // The state of the aggregate at a place of the node over a run's rows; a distinct one's c is 0, which lists the copy's one column.

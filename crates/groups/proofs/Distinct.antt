@@ -2,8 +2,8 @@
 use mathlib.Core.Path.{_≡_, refl, sym, ap, _∙_}
 use mathlib.Core.Bool.{Bool, false, _&&_, _||_}
 use mathlib.Core.List.{List, [], _∷_, _++_}
-use Prim.Native.Nat.{ℕ, _<_}
-use lib.ListN.{length, getD}
+use Prim.Native.Nat.{ℕ}
+use lib.ListN.{length}
 use lib.IntN.{ℤ, pos}
 use lib.Signed.{ltZ}
 use Rattle.meaning.specs.Cells.{Cell, null, num, eqZ, groups, below}
@@ -14,7 +14,7 @@ use Rattle.meaning.specs.Grouping.{key, belowKey}
 use Rattle.lists.specs.Equality.{any-same}
 use Rattle.lists.specs.Each.{Each, each-to, any-append, each}
 use Rattle.lists.specs.Tests.{clash, or-left, neither}
-use Rattle.groups.proofs.Orders.{Rises, at-rises, rises-at, insert, inOrder, in-order-same, has-in-order, whole-order}
+use Rattle.groups.proofs.Orders.{Rises, at-rises, insert, inOrder, in-order-same, has-in-order, whole-order}
 use Rattle.groups.proofs.Keys.{key-equality}
 use Rattle.groups.proofs.Grouped.{Ascends, Stable, same-rows}
 
@@ -114,7 +114,3 @@ module _ (v : ℕ) (a : Aggregate) (reads : (r : Row) → taken a r ≡ value (c
 
   pub values-rise : (u : Table) → Ascends (v ∷ []) u → Rises ltZ (valuesOf a u)
   values-rise u h = rising-values u (at-rises (λ (r s : Row). belowKey (key (v ∷ []) r) (key (v ∷ []) s)) [] u h)
-
-  pub values-ascend : (u : Table) → Ascends (v ∷ []) u
-      → (d : ℤ) (i j : ℕ) → i < j → j < length (valuesOf a u) → ltZ (getD (valuesOf a u) j d) (getD (valuesOf a u) i d) ≡ false
-  values-ascend u h d = rises-at ltZ d (valuesOf a u) (values-rise u h)

@@ -1,9 +1,9 @@
 -- Rows sorted by a grouping's columns, equal keys in their old order, have the grouping's groups as their runs; and there is one way to sort so.
 use mathlib.Core.Path.{_≡_, refl, sym, ap, _∙_}
 use mathlib.Core.Bool.{Bool, true, false, cond}
-use mathlib.Core.List.{List, [], _∷_, _++_, map, flatten}
+use mathlib.Core.List.{List, [], _∷_, map}
 use Prim.Native.Nat.{ℕ, zero, suc, _<_}
-use lib.ListN.{length, getD, take, drop, take-append-drop}
+use lib.ListN.{length, getD, take, drop}
 use Rattle.meaning.specs.Plans.{Row, Table, Aggregate}
 use Rattle.meaning.specs.Joining.{keep, any}
 use Rattle.meaning.specs.Grouping.{key, sameKey, belowKey, intoKeys, keysOf, groupOf, groupRow, groupRows}
@@ -173,20 +173,4 @@ module _ (cols : List ℕ) where
   pub runsOf-groupRows : (aggs : List Aggregate) (u t : Table) → Ascends cols u → Stable cols u t → runsOf cols aggs u ≡ groupRows cols aggs t
   unfolding runsOf groupRows
   runsOf-groupRows aggs u t a h = runs-are-groups (groupRow aggs) u t a h
-
   -- ---- one way to sort
-
-  flat-runs : (u : Table) (n : ℕ) → flatten (runs cols (λ k g. g) n u) ≡ drop n u
-  unfolding flatten runs
-  flat-runs [] zero = refl
-  flat-runs [] (suc n) = refl
-  flat-runs (r ∷ rs) (suc n) = flat-runs rs n
-  flat-runs (r ∷ rs) zero =
-      let m : ℕ = runLength cols (key cols r) rs in
-      ap (λ (l : Table). r ∷ l) (ap (λ (l : Table). take m rs ++ l) (flat-runs rs m) ∙ take-append-drop m rs)
-
-  pub sorted-once : (u v t : Table) → Ascends cols u → Stable cols u t → Ascends cols v → Stable cols v t → u ≡ v
-  sorted-once u v t a h b k =
-      sym (flat-runs u 0)
-      ∙ ap flatten (runs-are-groups (λ k g. g) u t a h ∙ sym (runs-are-groups (λ k g. g) v t b k))
-      ∙ flat-runs v 0

@@ -1,5 +1,5 @@
 -- The runs of a list of rows, the neighbours of one key: what is made of each, and the law of a loop that goes from run to run by index.
-use mathlib.Core.Path.{_≡_, refl, ap, subst, _∙_}
+use mathlib.Core.Path.{_≡_, refl, ap, _∙_}
 use mathlib.Core.Bool.{Bool, true, false, cond}
 use mathlib.Core.List.{List, [], _∷_, _++_}
 use Prim.Native.Nat.{ℕ, zero, suc, _+_, _-_, _<_, _≤_}
@@ -27,38 +27,6 @@ runsOf cols aggs u = runs cols (groupRow aggs) 0 u
 -- ---- the length of a run
 
 module _ (cols : List ℕ) (k : Row) where
-  pub run-fits : (w : Table) → runLength cols k w ≤ length w
-  unfolding runLength
-  run-fits [] = omega arith
-  run-fits (r ∷ rs) = step (sameKey (key cols r) k) (run-fits rs)
-    where
-      step : (b : Bool) → runLength cols k rs ≤ length rs → cond b (suc (runLength cols k rs)) 0 ≤ suc (length rs)
-      step true l = omega arith
-      step false l = omega arith
-
-  pub run-alike : (w : Table) (j : ℕ) → j < runLength cols k w → sameKey (key cols (getD w j [])) k ≡ true
-  unfolding runLength
-  run-alike [] j l = absurd (omega arith)
-  run-alike (r ∷ rs) j l = step (sameKey (key cols r) k) refl j l (run-alike rs)
-    where
-      step : (b : Bool) → sameKey (key cols r) k ≡ b → (j : ℕ) → j < cond b (suc (runLength cols k rs)) 0
-          → ((j : ℕ) → j < runLength cols k rs → sameKey (key cols (getD rs j [])) k ≡ true)
-          → sameKey (key cols (getD (r ∷ rs) j [])) k ≡ true
-      step true e zero l i = e
-      step true e (suc j) l i = i j (omega arith)
-      step false e j l i = absurd (omega arith)
-
-  pub run-stops : (w : Table) → runLength cols k w < length w → sameKey (key cols (getD w (runLength cols k w) [])) k ≡ false
-  unfolding runLength
-  run-stops [] l = absurd (omega arith)
-  run-stops (r ∷ rs) l = step (sameKey (key cols r) k) refl l (run-stops rs)
-    where
-      step : (b : Bool) → sameKey (key cols r) k ≡ b → cond b (suc (runLength cols k rs)) 0 < suc (length rs)
-          → (runLength cols k rs < length rs → sameKey (key cols (getD rs (runLength cols k rs) [])) k ≡ false)
-          → sameKey (key cols (getD (r ∷ rs) (cond b (suc (runLength cols k rs)) 0) [])) k ≡ false
-      step true e l i = i (omega arith)
-      step false e l i = e
-
   -- and no other length is such
   pub run-only : (w : Table) (d : ℕ) → d ≤ length w → ((j : ℕ) → j < d → sameKey (key cols (getD w j [])) k ≡ true)
       → (d < length w → sameKey (key cols (getD w d [])) k ≡ false) → runLength cols k w ≡ d
@@ -77,39 +45,7 @@ pub record RunEnd (cols : List ℕ) (u : Table) (i e : ℕ) : Type 0 where
   pub alike : (j : ℕ) → i ≤ j → j < e → sameKey (key cols (getD u j [])) (key cols (getD u i [])) ≡ true
   pub stops : e < length u → sameKey (key cols (getD u e [])) (key cols (getD u i [])) ≡ false
 
-unfoldable pub runEnd : List ℕ → Table → ℕ → ℕ
-runEnd cols u i = suc i + runLength cols (key cols (getD u i [])) (drop (suc i) u)
-
 module _ (cols : List ℕ) (u : Table) (i : ℕ) where
-  pub run-ends : i < length u → RunEnd cols u i (runEnd cols u i)
-  unfolding runEnd
-  run-ends l = record { after = omega arith; within = omega (arith, fits); alike = alike; stops = stops }
-    where
-      k : Row
-      k = key cols (getD u i [])
-
-      behind : Table
-      behind = drop (suc i) u
-
-      long : length behind ≡ length u - suc i
-      long = length-drop (suc i) u
-
-      fits : runLength cols k behind ≤ length u - suc i
-      fits = omega (arith, long, run-fits cols k behind)
-
-      alike : (j : ℕ) → i ≤ j → j < suc i + runLength cols k behind → sameKey (key cols (getD u j [])) k ≡ true
-      alike j a b = step (j - i) refl
-        where
-          step : (d : ℕ) → j - i ≡ d → sameKey (key cols (getD u j [])) k ≡ true
-          step zero e = let s : j ≡ i = omega arith in rw s (key-equality .self k)
-          step (suc d) e =
-              let s : suc i + d ≡ j = omega arith in
-              subst (λ (n : ℕ). sameKey (key cols (getD u n [])) k ≡ true) s
-              (rw getD-drop at (run-alike cols k behind d (omega arith)))
-
-      stops : suc i + runLength cols k behind < length u → sameKey (key cols (getD u (suc i + runLength cols k behind) [])) k ≡ false
-      stops m = rw getD-drop at (run-stops cols k behind (omega (arith, long)))
-
   module _ (e : ℕ) (h : RunEnd cols u i e) where
     behind-long : runLength cols (key cols (getD u i [])) (drop (suc i) u) ≡ e - suc i
     behind-long =
@@ -118,10 +54,6 @@ module _ (cols : List ℕ) (u : Table) (i : ℕ) where
         (λ m. let l : e - suc i < length u - suc i = rw length-drop at m in
         let s : suc i + (e - suc i) ≡ e = omega (arith, h .after) in
         rw (getD-drop, s) (h .stops (omega arith)))
-
-    pub run-end-only : e ≡ runEnd cols u i
-    unfolding runEnd
-    run-end-only = omega (arith, behind-long, h .after)
 
 -- ---- what is made of the runs from an index on
 
@@ -179,9 +111,6 @@ module _ (cols : List ℕ) (aggs : List Aggregate) (u : Table) where
   pub few-before : (i : ℕ) → length (runsOf cols aggs u) ≤ i + length (rest cols aggs u i)
   unfolding runsOf
   few-before i = runs-few cols (groupRow aggs) u i
-
-  pub runs-at-most : length (runsOf cols aggs u) ≤ length u
-  runs-at-most = let n : length (rest cols aggs u (length u)) ≡ 0 = ap length rest-none in omega (arith, few-before (length u))
 
   -- the rows written before an index
   pub written-few : (out : Table) (i : ℕ) → out ++ rest cols aggs u i ≡ runsOf cols aggs u → length out ≤ i

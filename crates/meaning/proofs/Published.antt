@@ -1,4 +1,4 @@
--- Two examples of source document 000: its Fig. 4 and its Fig. 2.
+-- Two examples of Eich and Moerkotte, Dynamic Programming: The Next Step: its Fig. 4 and its Fig. 2.
 use mathlib.Core.List.{List, [], _∷_}
 use Prim.Native.Nat.{ℕ}
 use lib.IntN.{ℤ, pos}

@@ -44,14 +44,17 @@ unfoldable pub valuesOf : Aggregate → Table → List ℤ
 valuesOf a [] = []
 valuesOf a (r ∷ rs) = taken a r ++ valuesOf a rs
 
+-- the values added up
 unfoldable pub total : List ℤ → ℤ
 total [] = pos 0
 total (x ∷ xs) = x +ℤ total xs
 
+-- the least of a value and more values
 unfoldable pub smallest : ℤ → List ℤ → ℤ
 smallest m [] = m
 smallest m (x ∷ xs) = smallest (cond (ltZ x m) x m) xs
 
+-- the greatest of a value and more values
 unfoldable pub largest : ℤ → List ℤ → ℤ
 largest m [] = m
 largest m (x ∷ xs) = largest (cond (ltZ m x) x m) xs

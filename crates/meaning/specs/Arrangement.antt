@@ -27,6 +27,7 @@ unfoldable pub inRow : {A : Type 0} → (A → List ℕ) → List A → List ℕ
 inRow f [] = []
 inRow f (x ∷ xs) = f x ++ inRow f xs
 
+-- a pair: the left column, then the right one
 unfoldable pub pairBytes : Pair → List ℕ
 pairBytes p = p .left ∷ p .right ∷ []
 
@@ -67,6 +68,7 @@ twoPlaces (v ∷ c ∷ more) = v ∷ c ∷ []
 unfoldable pub aggregateBytes : Aggregate → List ℕ
 aggregateBytes a = nameNumber (nameOf a) ∷ twoPlaces (columnsRead a)
 
+-- a grouping column: its number
 unfoldable pub columnBytes : ℕ → List ℕ
 columnBytes i = i ∷ []
 

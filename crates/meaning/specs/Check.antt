@@ -33,12 +33,13 @@ everyNode f (leaf t w) = f (leaf t w)
 everyNode f (join j ps l r) = f (join j ps l r) && (everyNode f l && everyNode f r)
 everyNode f (group cols aggs i) = f (group cols aggs i) && everyNode f i
 
--- 2, at one node: "widths or pairs are outside the table above"
+-- the pairs of a join are as many as the table says
 unfoldable pub pairsWithin : Plan → Bool
 pairsWithin (leaf t w) = true
 pairsWithin (join j ps l r) = upTo mostPairs (length ps)
 pairsWithin (group cols aggs i) = true
 
+-- 2, at one node: "widths or pairs are outside the table above"
 unfoldable pub nodeWithin : Plan → Bool
 nodeWithin p = upTo mostColumns (width p) && pairsWithin p
 
@@ -78,11 +79,13 @@ defaultRight k null = true
 defaultRight plain (num z) = leb (natAbs z) mostSize
 defaultRight weight (num z) = eqZ z (pos 0) || eqZ z (pos 1)
 
+-- each of a side's defaults, by the kind of its column
 unfoldable pub defaultsRight : List Kind → Row → Bool
 defaultsRight ks [] = true
 defaultsRight [] (d ∷ ds) = true
 defaultsRight (k ∷ ks) (d ∷ ds) = defaultRight k d && defaultsRight ks ds
 
+-- whether a kind is weight
 unfoldable pub isWeight : Kind → Bool
 isWeight plain = false
 isWeight weight = true
@@ -93,6 +96,7 @@ leftWidth (leaf t w) = 0
 leftWidth (join j ps l r) = width l
 leftWidth (group cols aggs i) = 0
 
+-- whether a node is a join
 unfoldable pub isJoin : Plan → Bool
 isJoin (leaf t w) = false
 isJoin (join j ps l r) = true
@@ -106,6 +110,7 @@ apart l v c = cond (ltb v l) (not (ltb c l)) (ltb c l)
 unfoldable pub weightPlaced : Plan → ℕ → ℕ → Bool
 weightPlaced i v c = isJoin i && (isWeight (kindAt (kinds i) c) && apart (leftWidth i) v c)
 
+-- 4, at one aggregate over a node: "a weight's place or kind is wrong"
 unfoldable pub aggregateRight : Plan → Aggregate → Bool
 aggregateRight i rows = true
 aggregateRight i (count v) = true

@@ -1,4 +1,4 @@
--- Width, kinds and size of a node: "A node's columns and kinds follow from those of its inputs, down to the leaves."
+-- Width and kinds of a node, and how many nodes it has: "A node's columns and kinds follow from those of its inputs, down to the leaves."
 use mathlib.Core.List.{List, _++_, map}
 use Prim.Native.Nat.{ℕ, _+_}
 use lib.ListN.{length, getD, replicate}
@@ -20,6 +20,7 @@ ruleKind kind-of-v k = k
 unfoldable pub kindAt : List Kind → ℕ → Kind
 kindAt ks i = getD ks i plain
 
+-- the kind of an aggregate's column, over a node of these kinds
 unfoldable pub aggregateKind : List Kind → Aggregate → Kind
 aggregateKind ks a = ruleKind (rule (nameOf a) .kind) (kindAt ks (getD (columnsRead a) 0 0))
 
@@ -29,12 +30,13 @@ kinds (leaf t w) = replicate w plain
 kinds (join j ps l r) = kinds l ++ kinds r
 kinds (group cols aggs i) = map (kindAt (kinds i)) cols ++ map (aggregateKind (kinds i)) aggs
 
--- how many nodes a plan has, and how many of them are tables
+-- how many nodes a plan has
 unfoldable pub nodes : Plan → ℕ
 nodes (leaf t w) = 1
 nodes (join j ps l r) = nodes l + nodes r + 1
 nodes (group cols aggs i) = nodes i + 1
 
+-- how many of them are tables
 unfoldable pub leaves : Plan → ℕ
 leaves (leaf t w) = 1
 leaves (join j ps l r) = leaves l + leaves r

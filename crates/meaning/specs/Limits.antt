@@ -31,6 +31,6 @@ mostSize = 2147483647
 unfoldable pub mostLimit : ℕ
 mostLimit = 4096
 
--- at least 1 and at most `most`: the form of four of the table's lines
+-- at least 1 and at most `most`: the form of the table's lines that have a least of 1
 unfoldable pub upTo : ℕ → ℕ → Bool
 upTo most n = leb 1 n && leb n most

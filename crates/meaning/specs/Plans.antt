@@ -3,10 +3,11 @@ use mathlib.Core.List.{List, [], _∷_}
 use Prim.Native.Nat.{ℕ}
 use Rattle.meaning.specs.Cells.{Cell}
 
--- a row is its cells in the order of the columns; a table is its rows in order
+-- a row is its cells in the order of the columns
 abbrev pub Row : Type 0
 Row = List Cell
 
+-- a table is its rows in order
 abbrev pub Table : Type 0
 Table = List Row
 
@@ -20,6 +21,7 @@ pub data Aggregate : Type 0 where
   count sum least greatest distinctSum distinctCount : ℕ → Aggregate
   weightedSum weightedCount : ℕ → ℕ → Aggregate
 
+-- the name of an aggregate
 unfoldable pub nameOf : Aggregate → Name
 nameOf rows = Rows
 nameOf (count v) = Count
@@ -54,12 +56,13 @@ pub data Join : Type 0 where
   leftOuter : Row → Join
   fullOuter : Row → Row → Join
 
--- the defaults of a join's left and of its right side, none where the side is not padded
+-- the defaults of a join's left side, none where it is not padded
 unfoldable pub leftDefaults : Join → Row
 leftDefaults inner = []
 leftDefaults (leftOuter dr) = []
 leftDefaults (fullOuter dl dr) = dl
 
+-- and of its right side
 unfoldable pub rightDefaults : Join → Row
 rightDefaults inner = []
 rightDefaults (leftOuter dr) = dr

@@ -32,10 +32,12 @@ unfoldable pub sizes : ℕ → Table → ℕ
 sizes i [] = 0
 sizes i (r ∷ rs) = size (cell r i) + sizes i rs
 
+-- a cell that is null or not below 0
 unfoldable pub notNegative : Cell → Bool
 notNegative null = true
 notNegative (num z) = nonNeg z
 
+-- no cell of a column is below 0
 unfoldable pub noneNegative : ℕ → Table → Bool
 noneNegative i [] = true
 noneNegative i (r ∷ rs) = notNegative (cell r i) && noneNegative i rs

@@ -1,4 +1,4 @@
--- The rewriting: a grouping directly above a join is pushed below it (source document 000, equivalences 10 to 15).
+-- The rewriting: a grouping directly above a join is pushed below it (Eich and Moerkotte, Dynamic Programming: The Next Step, equivalences 10 to 15).
 --
 --   group G; F                         group G'; F' with c
 --       |                                  |
@@ -23,6 +23,7 @@ use Rattle.meaning.specs.Grouping.{key, groupRow}
 use Rattle.meaning.specs.Check.{refuse, firstOf, checkNumber}
 use Rattle.meaning.specs.Running.{onto}
 
+-- "both sides" of a join
 pub data Side : Type 0 where
   onLeft onRight : Side
 
@@ -32,15 +33,17 @@ sideOf zero = some onLeft
 sideOf (suc zero) = some onRight
 sideOf (suc (suc n)) = none
 
--- whether a column of a join, whose left input has l columns, is the side's, and its number in the side's own numbers
+-- whether a column of a join, whose left input has l columns, is the side's
 unfoldable pub isOn : Side → ℕ → ℕ → Bool
 isOn onLeft l i = ltb i l
 isOn onRight l i = not (ltb i l)
 
+-- a column of the join in the side's own numbers
 unfoldable pub ownNumber : Side → ℕ → ℕ → ℕ
 ownNumber onLeft l i = i
 ownNumber onRight l i = i - l
 
+-- the side's column of a pair
 unfoldable pub pairColumn : Side → Pair → ℕ
 pairColumn onLeft p = p .left
 pairColumn onRight p = p .right
@@ -54,6 +57,7 @@ unfoldable pub intoColumns : ℕ → List ℕ → List ℕ
 intoColumns i [] = i ∷ []
 intoColumns i (k ∷ ks) = cond (ltb i k) (i ∷ k ∷ ks) (cond (eqb i k) (k ∷ ks) (k ∷ intoColumns i ks))
 
+-- the columns of a list in that order
 unfoldable pub ascendingColumns : List ℕ → List ℕ
 ascendingColumns [] = []
 ascendingColumns (i ∷ is) = intoColumns i (ascendingColumns is)
@@ -131,6 +135,7 @@ unfoldable pub lower : Side → List ℕ → List Aggregate → List Pair → Pl
 lower onLeft cols aggs ps l r = group (newColumns onLeft (width l) cols ps) (newAggregates onLeft (width l) aggs) l
 lower onRight cols aggs ps l r = group (newColumns onRight (width l) cols ps) (newAggregates onRight (width l) aggs) r
 
+-- the join with the new grouping in place of the side
 unfoldable pub newInputs : Side → Join → List Pair → Plan → Plan → Plan → Plan
 newInputs onLeft j ps l r g = join j ps g r
 newInputs onRight j ps l r g = join j ps l g
@@ -152,6 +157,7 @@ upper s cols aggs new-cols new-aggs l m =
     aggs)
     m
 
+-- the three new nodes, the upper grouping above the join above the lower grouping
 unfoldable pub pushedGroup : Side → List ℕ → List Aggregate → Join → List Pair → Plan → Plan → Plan
 pushedGroup s cols aggs j ps l r =
     upper s cols aggs (newColumns s (width l) cols ps) (newAggregates s (width l) aggs) (width l)
@@ -197,6 +203,7 @@ isWeighted a = eqb (length (columnsRead a)) 2
 unfoldable pub readsBoth : ℕ → Aggregate → Bool
 readsBoth l a = reads onLeft l a && reads onRight l a
 
+-- whether the rule table has no form
 unfoldable pub isNone : Option Name → Bool
 isNone none = true
 isNone (some n) = false
@@ -237,6 +244,7 @@ pub record Rewritten : Type 0 where
   pub count : ℕ
   pub area : List ℕ
 
+-- "A refusal comes back as its number, with row or byte count 0. The result area and plan area stay untouched."
 unfoldable pub refusedRewriting : ℕ → List ℕ → Rewritten
 refusedRewriting n area = record { number = n; count = 0; area = area }
 

@@ -1,4 +1,4 @@
-// Refusals 3 and 4 at one node of a byte string, and the kinds of its columns. Kinds are 0 for plain and 1 for weight, 16 at the most.
+// Refusals 2, 3 and 4 at one node of a byte string, and the kinds of its columns. Kinds are 0 for plain and 1 for weight, 16 at the most.
 ghost use mathlib.Core.Path.{_≡_};
 ghost use mathlib.Core.List.{_++_};
 ghost use Prim.Native.Nat.{_+_, _*_, _<_, _≤_};

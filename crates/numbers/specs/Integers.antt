@@ -5,7 +5,7 @@ use Prim.Native.Nat.{ℕ, zero, suc, _+_, _*_, _-_, _≤_, _<_, _^_}
 use native.Mathlib.Omega.{arith}
 use lib.Dec.{ltb}
 use borrow.Author.Tests.{ltb-true, ltb-false, lt-ltb, le-ltb}
-use lib.IntN.{ℤ, pos, negsuc, natAbs, negℤ, subℕ, _+ℤ_, _*ℤ_}
+use lib.IntN.{ℤ, pos, negsuc, natAbs, negℤ, _+ℤ_, _*ℤ_}
 use lib.Signed.{mag, ltZ}
 use mir.Syntax.{w64}
 use mir.Val.{SFits, ofZ, toZ}
@@ -19,26 +19,6 @@ up (negsuc n) = 0
 abbrev pub dn : ℤ → ℕ
 dn (pos n) = 0
 dn (negsuc n) = suc n
-
--- a size is the sum of the parts
-pub abs-parts : (z : ℤ) → natAbs z ≡ up z + dn z
-abs-parts (pos n) = omega arith
-abs-parts (negsuc n) = omega arith
-
--- the parts of a sum
-sub-parts : (a b : ℕ) (t : Bool) → ltb a b ≡ t
-    → up (cond t (negsuc (b - suc a)) (pos (a - b))) + b ≡ a + dn (cond t (negsuc (b - suc a)) (pos (a - b)))
-sub-parts a b true e = omega (arith, ltb-true a b e)
-sub-parts a b false e = omega (arith, ltb-false a b e)
-
-subℕ-parts : (a b : ℕ) → up (subℕ a b) + b ≡ a + dn (subℕ a b)
-subℕ-parts a b = sub-parts a b (ltb a b) refl
-
-pub add-parts : (x y : ℤ) → up (x +ℤ y) + (dn x + dn y) ≡ (up x + up y) + dn (x +ℤ y)
-add-parts (pos a) (pos b) = omega arith
-add-parts (pos a) (negsuc b) = omega (arith, subℕ-parts a (suc b))
-add-parts (negsuc a) (pos b) = omega (arith, subℕ-parts b (suc a))
-add-parts (negsuc a) (negsuc b) = omega arith
 
 -- numbers with the same parts are the same
 pub parts-eq : (x y : ℤ) → up x + dn y ≡ up y + dn x → x ≡ y

@@ -81,6 +81,3 @@ sum-keep-mono f t u (x ∷ xs) h =
     pick true true e = omega arith
     pick true false e = let q : false ≡ true = e refl in let z : _≡_ {A = ℕ} 0 1 = cc in absurd (omega arith)
     pick false c e = omega arith
-
-pub sum-keep-most : {A : Type 0} (f : A → ℕ) (t : A → Bool) (xs : List A) → sumOf f (keep t xs) ≤ sumOf f xs
-sum-keep-most f t xs = omega (arith, sum-keep-split f t xs)

@@ -1,4 +1,4 @@
-// The rule table of the aggregates, as the check and the rewriter read it.
+// The rule table of the aggregates, as the code reads it.
 ghost use mathlib.Core.Path.{_≡_};
 ghost use Rattle.rules.specs.Lines.{entryOf};
 

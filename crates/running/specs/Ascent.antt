@@ -54,14 +54,6 @@ unfolding upwardsFrom lastFrom
 upwards-last x [] z h = not-true (ltZ z x) (and-left (not (ltZ z x)) true h)
 upwards-last x (y ∷ ys) z h = upwards-last y ys z (and-right (not (ltZ y x)) (upwardsFrom y (ys ++ z ∷ [])) h)
 
-pub upwards-more : (x : ℤ) (xs : List ℤ) (z : ℤ) → upwardsFrom x xs ≡ true → ltZ z (lastFrom x xs) ≡ false
-    → upwardsFrom x (xs ++ z ∷ []) ≡ true
-unfolding upwardsFrom lastFrom
-upwards-more x [] z h k = rw k
-upwards-more x (y ∷ ys) z h k =
-    rw (and-left (not (ltZ y x)) (upwardsFrom y ys) h)
-    (upwards-more y ys z (and-right (not (ltZ y x)) (upwardsFrom y ys) h) k)
-
 -- the last is not below the first
 first-last : (x : ℤ) (xs : List ℤ) → upwardsFrom x xs ≡ true → ltZ (lastFrom x xs) x ≡ false
 unfolding upwardsFrom lastFrom

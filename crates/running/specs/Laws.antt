@@ -5,7 +5,6 @@ use mathlib.Core.List.{List, [], _∷_, _++_, append-nil}
 use Prim.Native.Nat.{ℕ, _≤_, _<_, _^_}
 use native.Mathlib.Omega.{arith}
 use lib.IntN.{ℤ, natAbs}
-use lib.Signed.{ltZ}
 use Rattle.meaning.specs.Cells.{Cell}
 use Rattle.meaning.specs.Plans.{Row, Name, Rows, Count, Sum, Least, Greatest, DistinctSum, DistinctCount, WeightedSum, WeightedCount, Aggregate, nameOf}
 use Rattle.meaning.specs.Rules.{rule}
@@ -18,7 +17,7 @@ use Rattle.running.specs.declared.Running.{Running}
 use Rattle.running.specs.States.{repeatsOf, takesOf, amountOf, startOf, addTo, Room, mergeOf, RoomForBoth, emptyMarkOf, finishOf}
 use Rattle.running.specs.Steps.{repeats-yes, repeats-no, add-not-taken, add-repeated, add-taken, merge-none, merge-some}
 use Rattle.running.specs.Ascent.{upwards, lastOf, last-more}
-use Rattle.running.specs.Values.{isDistinct, isAny, any-more, Rises, upwards-next, none-number, answer-both, answer-new, answer-same}
+use Rattle.running.specs.Values.{isDistinct, isAny, any-more, Rises, none-number, answer-both, answer-new, answer-same}
 use Rattle.running.specs.Rows.{takenBy, vCell, cCell, taken-by, Gives, nothing, one, gives, given-size}
 use Rattle.running.specs.Sizes.{mostOf, most-append, answer-size}
 
@@ -96,11 +95,6 @@ took-add a r {xs} {st} t =
     (taken-by a r)
     (took-cells t (vCell a r) (cCell a r))
 
--- what `took-add` asks of a distinct one: its values ascend as a whole, or the next one is not below the last
-pub rises-next : {n : Name} {xs : List ℤ} {st : Running} → Took n xs st → (z : ℤ) → (st .some ≡ true → ltZ z (st .last) ≡ false)
-    → Rises n (xs ++ z ∷ [])
-rises-next {xs} {st} t z k d = upwards-next xs z (t .rises d) (λ a. subst (λ (l : ℤ). ltZ z l ≡ false) (t .ends d) (k (t .any ∙ a)))
-
 -- "two over separate rows, unless distinct, may be merged into the one over both"
 merge-any : {n : Name} {xs : List ℤ} {a b : Running} (y : ℤ) (ys : List ℤ) → isDistinct n ≡ false → Took n xs a → Took n (y ∷ ys) b
     → Took n (xs ++ y ∷ ys) (mergeOf a b)
@@ -145,11 +139,6 @@ unfolding finishOf isAny answer cellNumber cellMark
 took-finish {n} {xs = []} t = (rw (t .any) (sym (none-number n)), rw (t .any, t .named) (empty-mark n))
 took-finish {xs = x ∷ xs} t = (rw (t .any) (t .holds), rw (t .any))
 
--- and the state comes back as it is
-pub finish-state : (st : Running) → finishOf st .state ≡ st
-unfolding finishOf
-finish-state st = refl
-
 -- the size of the value is at most the count of the values, or their sizes added up
 pub took-size : {n : Name} {xs : List ℤ} {st : Running} → Took n xs st → natAbs (st .value) ≤ mostOf n xs
 took-size {n} {xs} t = rw (t .holds) (answer-size n xs)
@@ -159,10 +148,6 @@ pub took-room-cells : {n : Name} {xs : List ℤ} {st : Running} → Took n xs st
     → RoomForCells st p q
 took-room-cells {n} {xs} t p q h =
     record { small = rw (t .named) (omega (arith, took-size t, given-size (gives n p q), most-append n xs (takenBy n p q))) }
-
-pub took-room : (a : Aggregate) (r : Row) {xs : List ℤ} {st : Running} → Took (nameOf a) xs st
-    → mostOf (nameOf a) (xs ++ taken a r) < 2 ^ 63 → RoomForCells st (vCell a r) (cCell a r)
-took-room a r t h = took-room-cells t (vCell a r) (cCell a r) (rw (taken-by a r) h)
 
 -- what `merge` requires, from a bound on the values of both
 pub took-room-both : {n : Name} {xs ys : List ℤ} {a b : Running} → Took n xs a → Took n ys b → mostOf n (xs ++ ys) < 2 ^ 63

@@ -1,7 +1,7 @@
 -- What an aggregate takes of a row, by its cells v and c, and of rows after others.
 use mathlib.Core.Path.{_≡_, refl, sym, ap, _∙_}
 use mathlib.Core.Bool.{true, false}
-use mathlib.Core.List.{List, [], _∷_, _++_, append-nil, append-assoc}
+use mathlib.Core.List.{List, [], _∷_, _++_, append-assoc}
 use Prim.Native.Nat.{ℕ, _≤_}
 use native.Mathlib.Omega.{arith}
 use lib.ListN.{getD}
@@ -90,7 +90,3 @@ values-append a [] t = refl
 values-append a (r ∷ s) t =
     ap (λ (l : List ℤ). taken a r ++ l) (values-append a s t)
     ∙ sym (append-assoc (taken a r) (valuesOf a s) (valuesOf a t))
-
-pub values-more : (a : Aggregate) (t : Table) (r : Row) → valuesOf a (t ++ r ∷ []) ≡ valuesOf a t ++ taken a r
-unfolding valuesOf
-values-more a t r = values-append a t (r ∷ []) ∙ ap (λ (l : List ℤ). valuesOf a t ++ l) (append-nil (taken a r))

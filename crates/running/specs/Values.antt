@@ -13,7 +13,7 @@ use Rattle.meaning.specs.Arrangement.{nameNumber}
 use Rattle.meaning.specs.Running.{cellNumber}
 use Rattle.numbers.specs.Integers.{lt-trans, nlt-trans, nlt-antisym}
 use Rattle.running.specs.States.{distinctOf, combineOf}
-use Rattle.running.specs.Ascent.{upwardsFrom, upwards, lastFrom, lastOf, upwards-front, upwards-last, upwards-more, ascending-new, ascending-same}
+use Rattle.running.specs.Ascent.{upwardsFrom, upwards, lastFrom, lastOf, upwards-front, upwards-last, ascending-new, ascending-same}
 
 -- whether a name is that of a distinct aggregate
 abbrev pub isDistinct : Name → Bool
@@ -37,12 +37,6 @@ pub rises-front : (n : Name) (xs ys : List ℤ) → Rises n (xs ++ ys) → Rises
 unfolding upwards
 rises-front n [] ys h d = refl
 rises-front n (x ∷ xs) ys h d = upwards-front x xs ys (h d)
-
-pub upwards-next : (xs : List ℤ) (z : ℤ) → upwards xs ≡ true → (isAny xs ≡ true → ltZ z (lastOf xs) ≡ false)
-    → upwards (xs ++ z ∷ []) ≡ true
-unfolding upwards upwardsFrom isAny lastOf
-upwards-next [] z h k = refl
-upwards-next (x ∷ xs) z h k = upwards-more x xs z h (k refl)
 
 -- the sum of values after others
 total-append : (xs ys : List ℤ) → total (xs ++ ys) ≡ total xs +ℤ total ys

@@ -21,7 +21,7 @@ pub struct Finished {
 }
 
 // Whether the name is that of a distinct aggregate.
-fn distinct(name: u8) -> bool
+pub fn distinct(name: u8) -> bool
     ensures { λ r. ⌜ r ≡ distinctOf name ⌝ }
 {
     match name {

@@ -1,4 +1,4 @@
-// Tables in lent memory: whether those that a plan names are right, and the room that a run needs.
+// Tables in lent memory: whether one that a plan names is right.
 ghost use mathlib.Core.Path.{_≡_};
 ghost use Prim.Native.Nat.{_+_, _*_, _<_, _≤_};
 ghost use lib.ListN.{length};
