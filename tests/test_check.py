@@ -87,6 +87,22 @@ class PlanA(Compared):
         self.give(plan_bytes(PLAN_A), 0)
 
 
+class Size(Compared):
+    """docs/ARRANGEMENT.md, Size: a node of a plan within the limits has at most 156 bytes."""
+
+    MOST_BYTES = 156
+
+    def test_largest_node(self):
+        sides = {"left_defaults": [None] * 8, "right_defaults": [None] * 8}
+        join = {"op": "join", "kind": "full", "pairs": [[k, k] for k in range(reader.MOST_PAIRS)], **sides}
+        plan = [{"op": "leaf", "table": table, "width": 8} for table in (0, 1)] + [join]
+        self.assertEqual(len(node_bytes(join)), self.MOST_BYTES)
+        self.give(plan_bytes(plan), 0)
+
+    def test_every_node(self):
+        self.assertLessEqual(max(len(node_bytes(node)) for plan in ACCEPTED for node in plan), self.MOST_BYTES)
+
+
 class Lending(Compared):
     def test_no_bytes(self):
         self.assertEqual(check_null(), 1)

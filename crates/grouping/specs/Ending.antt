@@ -10,8 +10,8 @@ use lib.IntN.{ℤ}
 use Rattle.meaning.specs.Plans.{Table}
 use Rattle.meaning.specs.Grouping.{key, sameKey}
 use Rattle.meaning.specs.Running.{rowsFrom}
+use Rattle.meaning.proofs.Widths.{rows-long}
 use Rattle.regions.specs.Holding.{Held, HeldRows, held-cells-fit, held-marks-fit, row-held}
-use Rattle.regions.specs.Reading.{rows-long}
 use Rattle.groups.proofs.Keys.{key-equality}
 use Rattle.sorting.specs.Sorting.{Listed, columns, keyAt, KeysIn}
 use Rattle.sorting.specs.Standing.{key-read}

@@ -10,10 +10,11 @@ use Rattle.meaning.specs.Joining.{cell}
 use Rattle.meaning.specs.Aggregating.{valuesOf}
 use Rattle.meaning.specs.Arrangement.{nameNumber}
 use Rattle.meaning.specs.Running.{cellsFrom, rowsFrom, cellNumber, cellMark}
+use Rattle.meaning.proofs.Widths.{cells-long, rows-long}
 use Rattle.arrangement.proofs.Items.{number-name}
 use Rattle.rules.specs.Lines.{nameAt}
 use Rattle.regions.specs.Holding.{Held, HeldRows, held-number, held-mark, held-cells-fit, held-marks-fit, row-held}
-use Rattle.regions.specs.Reading.{cells-long, rows-long, row-at}
+use Rattle.regions.specs.Reading.{row-at}
 use Rattle.running.specs.declared.Running.{Running}
 use Rattle.running.specs.States.{addTo, startOf, Room}
 use Rattle.running.specs.Values.{Rises, rises-front}

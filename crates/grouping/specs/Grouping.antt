@@ -16,6 +16,7 @@ use Rattle.meaning.specs.Aggregating.{valuesOf, aggregate}
 use Rattle.meaning.specs.Grouping.{key, groupRow, groupRows}
 use Rattle.meaning.specs.Check.{all, columnsThere}
 use Rattle.meaning.specs.Running.{cellsFrom, rowsFrom}
+use Rattle.meaning.proofs.Widths.{cells-long, rows-long}
 use Rattle.lists.specs.Each.{Each, each-to, each-at, all-each}
 use Rattle.lists.specs.Tests.{and-left, and-right}
 use Rattle.node_bytes.specs.Rows.{every, length-list}
@@ -24,18 +25,18 @@ use Rattle.arrangement.proofs.Items.{aggregateAt}
 use Rattle.arrangement.proofs.Roots.{columnsFrom, aggregatesFrom}
 use Rattle.regions.specs.Keeping.{kept-all}
 use Rattle.regions.specs.Holding.{Held, HeldRows, Untouched, rows-none, rows-more}
-use Rattle.regions.specs.Reading.{rows-long, row-at}
+use Rattle.regions.specs.Reading.{row-at}
 use Rattle.running.specs.Rows.{values-append}
 use Rattle.running.specs.Sizes.{mostOf, most-append}
 use Rattle.sorting.specs.Sorting.{Listed, SortRoom, SortDone}
-use Rattle.regions.specs.Rows.{untouched-then, untouched-wider, rows-front, rows-back, rows-apart, rows-to}
+use Rattle.regions.specs.Rows.{untouched-then, untouched-wider, rows-front, rows-back, rows-apart, rows-to, rows-stay, rows-same}
 use Rattle.groups.proofs.Runs.{RunEnd, runsOf, rest, rest-none, rest-step, written-few}
 use Rattle.groups.proofs.Grouped.{runsOf-groupRows}
 use Rattle.grouping.specs.Picking.{getD-list, key-long}
 use Rattle.grouping.specs.Feeding.{rows-append}
 use Rattle.grouping.specs.Sorted.{sort-stable, sort-ascends, sort-most}
 use Rattle.grouping.specs.Single.{scratchFor, scratch-fits, AggregateFits, first-here, second-here}
-use Rattle.grouping.specs.Writing.{rows-stay, rows-same, RowRoom, RowDone}
+use Rattle.grouping.specs.Writing.{RowRoom, RowDone}
 use Rattle.grouping.specs.Ending.{EndRoom}
 
 -- how wide a grouping's rows are, by the counts in its node

@@ -16,6 +16,7 @@ use Rattle.meaning.specs.Joining.{cell}
 use Rattle.meaning.specs.Aggregating.{valuesOf, aggregate}
 use Rattle.meaning.specs.Arrangement.{nameNumber, twoPlaces, aggregateBytes}
 use Rattle.meaning.specs.Running.{rowsFrom, cellNumber, cellMark}
+use Rattle.meaning.proofs.Widths.{cells-long, rows-long}
 use Rattle.lists.specs.Tests.{and-left, and-right}
 use Rattle.numbers.specs.Integers.{false-true}
 use Rattle.rules.specs.Lines.{nameAt, nameAt-number}
@@ -25,7 +26,7 @@ use Rattle.node_bytes.specs.Rows.{listAt}
 use Rattle.node_bytes.specs.Nodes.{byte, aggregateGood}
 use Rattle.arrangement.proofs.Items.{aggregateAt, aggregate-holds, number-name}
 use Rattle.regions.specs.Holding.{HeldRows, Untouched}
-use Rattle.regions.specs.Reading.{rows-long, rows-read}
+use Rattle.regions.specs.Reading.{rows-read}
 use Rattle.running.specs.declared.Running.{Running}
 use Rattle.running.specs.States.{distinctOf, finishOf}
 use Rattle.running.specs.Ascent.{upwardsFrom, upwards}

@@ -1,6 +1,5 @@
 -- A group's row written into an area: the key, then each aggregate behind the ones before.
 use mathlib.Core.Path.{_≡_, refl, sym, ap, _∙_}
-use mathlib.Core.Logic.{inl}
 use mathlib.Core.List.{List, [], _∷_, _++_, map}
 use Prim.Native.Nat.{ℕ, zero, suc, _+_, _*_, _<_, _≤_}
 use native.Mathlib.Nat.{mul-le-mul-right}
@@ -13,29 +12,21 @@ use Rattle.meaning.specs.Plans.{Row, Table, Aggregate}
 use Rattle.meaning.specs.Aggregating.{aggregate}
 use Rattle.meaning.specs.Grouping.{key, groupRow}
 use Rattle.meaning.specs.Running.{rowsFrom, cellNumber, cellMark}
+use Rattle.meaning.proofs.Widths.{rows-long}
 use Rattle.node_bytes.specs.Rows.{listAt, length-list, list-more}
 use Rattle.node_bytes.specs.Nodes.{byte, groupSize}
 use Rattle.arrangement.proofs.Items.{aggregateAt}
 use Rattle.arrangement.proofs.Roots.{columnsFrom, aggregatesFrom}
 use Rattle.regions.specs.Keeping.{kept-then, kept-wider, kept-set}
-use Rattle.regions.specs.Holding.{Held, HeldRows, Untouched, held-both, held-to, held-below, row-held}
-use Rattle.regions.specs.Reading.{rows-long, rows-read}
+use Rattle.regions.specs.Holding.{Held, Untouched, held-both, held-to, held-below, row-held}
 use Rattle.running.specs.declared.Running.{Running}
 use Rattle.running.specs.declared.Finished.{Finished}
 use Rattle.running.specs.States.{finishOf}
-use Rattle.regions.specs.Rows.{untouched-then, untouched-wider, rows-apart}
+use Rattle.regions.specs.Rows.{untouched-then, untouched-wider, rows-stay, rows-same}
 use Rattle.grouping.specs.Picking.{PickDone, KeyRoom, keyPlace, key-held, key-long, picked-untouched}
 use Rattle.grouping.specs.Single.{scratchFor, AggregateFits, RunRoom, StateRoom, StateDone}
 
 -- ---- rows below what is written
-
-module _ {cells cells′ : List ℤ} {marks marks′ : List ℕ} {base w from to : ℕ} (n : ℕ)
-    (h : HeldRows cells marks base w (rowsFrom cells marks w base n)) (u : Untouched cells marks cells′ marks′ from to) (b : base + n * w ≤ from) where
-  pub rows-stay : HeldRows cells′ marks′ base w (rowsFrom cells marks w base n)
-  rows-stay = rows-apart u (inl (rw (rows-long cells marks w base n) b)) h
-
-  pub rows-same : rowsFrom cells′ marks′ w base n ≡ rowsFrom cells marks w base n
-  rows-same = ap (rowsFrom cells′ marks′ w base) (sym (rows-long cells marks w base n)) ∙ rows-read base (rowsFrom cells marks w base n) rows-stay
 
 pub run-stays : {cells cells′ : List ℤ} {marks marks′ : List ℕ} {base n w scratch from to : ℕ} → RunRoom cells marks base n w scratch
     → Untouched cells marks cells′ marks′ from to → base + n * w ≤ from → RunRoom cells′ marks′ base n w scratch

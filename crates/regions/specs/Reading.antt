@@ -15,6 +15,7 @@ use Rattle.meaning.specs.Limits.{mostSize}
 use Rattle.meaning.specs.Cells.{Cell, null, num, eqZ}
 use Rattle.meaning.specs.Plans.{Row, Table}
 use Rattle.meaning.specs.Running.{cellFrom, cellsFrom, rowsFrom, cellRight, cellsRight, cellNumber, cellMark, flat, onto}
+use Rattle.meaning.proofs.Widths.{cells-long, rows-long}
 use Rattle.lists.specs.Tests.{and-left, and-right}
 use Rattle.node_bytes.specs.Holding.{Span}
 use Rattle.regions.specs.Copying.{Copied, CopiedIn, copied-span}
@@ -22,10 +23,9 @@ use Rattle.regions.specs.Holding.{Held, HeldRows, held-number, held-mark
 
 -- ---- cells read from a place on
 
-pub cells-long : (c : List ℤ) (m : List ℕ) (at n : ℕ) → length (cellsFrom c m at n) ≡ n
-unfolding cellsFrom
-cells-long c m at zero = refl
-cells-long c m at (suc n) = ap suc (cells-long c m (at + 1) n)
+-- the cell at a place
+unfoldable pub cellOf : List ℤ → List ℕ → ℕ → Cell
+cellOf cells marks at = cellFrom (getD cells at (pos 0)) (getD marks at 0)
 
 pub cells-at : (c : List ℤ) (m : List ℕ) (at n i : ℕ) → i < n → getD (cellsFrom c m at n) i null ≡ cellFrom (getD c (at + i) (pos 0)) (getD m (at + i) 0)
 unfolding cellsFrom
@@ -46,11 +46,6 @@ cells-append c m at (suc n) k =
     (cells-append c m (at + 1) n k ∙ ap (λ (a : ℕ). cellsFrom c m (at + 1) n ++ cellsFrom c m a k) r))
 
 -- ---- rows read from a place on
-
-pub rows-long : (c : List ℤ) (m : List ℕ) (w at n : ℕ) → length (rowsFrom c m w at n) ≡ n
-unfolding rowsFrom
-rows-long c m w at zero = refl
-rows-long c m w at (suc n) = ap suc (rows-long c m w (at + w) n)
 
 pub row-at : (c : List ℤ) (m : List ℕ) (w at n r : ℕ) → r < n → getD (rowsFrom c m w at n) r [] ≡ cellsFrom c m (at + r * w) w
 unfolding rowsFrom
