@@ -1,3 +1,5 @@
+#![tactic(auto)]
+
 // The check of a plan: refusals 1 to 4, in that order over the whole plan.
 ghost use Rattle.std.specs.Prelude.{◌≡◌, ◌+◌, ◌<◌, ◌≤◌, length};
 ghost use Rattle.meaning.specs.Check.{Checks};

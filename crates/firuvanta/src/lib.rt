@@ -1,3 +1,5 @@
+#![tactic(auto)]
+
 // The doors that C calls: include/firuvanta.h documents them.
 ghost use Rattle.meaning.specs.Check.{Checks};
 ghost use Rattle.meaning.specs.Running.{Runs, lent_of, areas_of, answered};

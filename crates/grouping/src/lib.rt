@@ -1,3 +1,5 @@
+#![tactic(auto)]
+
 // The rows of a grouping, from its input's rows in a lent area.
 ghost use Rattle.std.specs.Prelude.{◌≡◌};
 ghost use Rattle.meaning.specs.Running.{rows_from};

@@ -1,3 +1,5 @@
+#![tactic(auto)]
+
 // Numbers in a byte string.
 ghost use Rattle.std.specs.Prelude.{◌≡◌, ◌+◌, ◌*◌, ◌≤◌, ◌<◌, length};
 ghost use Rattle.node_bytes.specs.Words.{four, word_at};

@@ -1,3 +1,5 @@
+#![tactic(auto)]
+
 // Refusals 2, 3 and 4 at one node of a byte string, and the kinds of its columns. Kinds are 0 for plain and 1 for weight, 16 at the most.
 ghost use Rattle.std.specs.Prelude.{◌≡◌, ◌++◌, ◌+◌, ◌*◌, ◌<◌, ◌≤◌, length, get_or, take};
 ghost use Rattle.meaning.specs.Limits.{up_to};

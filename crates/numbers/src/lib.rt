@@ -1,1 +1,3 @@
+#![tactic(auto)]
+
 // No code: specs/ has the laws of whole numbers that the kit lacks.

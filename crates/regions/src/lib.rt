@@ -1,3 +1,5 @@
+#![tactic(auto)]
+
 // Rows in a lent area of cells and marks: copied where they are, cell by cell.
 ghost use Rattle.std.specs.Prelude.{◌≤◌, length, pos};
 ghost use Rattle.regions.specs.Copying.{Room, CopiedWithin, RoomIn, CopiedIn};

@@ -1,3 +1,5 @@
+#![tactic(auto)]
+
 // The rule table of the aggregates, as the code reads it.
 ghost use Rattle.std.specs.Prelude.{◌≡◌};
 ghost use Rattle.rules.specs.Lines.{entry_of};

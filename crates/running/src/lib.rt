@@ -1,3 +1,5 @@
+#![tactic(auto)]
+
 // A running aggregate: a state that takes rows one at a time, is merged with another, and answers.
 // Names by number: 0 count of rows, 1 count, 2 sum, 3 least, 4 greatest, 5 distinct sum, 6 distinct count, 7 weighted sum, 8 weighted count.
 ghost use Rattle.std.specs.Prelude.{◌≡◌, ◌+◌, ◌<◌, ◌^◌, nat_abs};

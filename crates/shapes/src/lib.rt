@@ -1,3 +1,5 @@
+#![tactic(auto)]
+
 // The shape of a byte string: its nodes, one behind the other, and whether they make one tree.
 ghost use Rattle.std.specs.Prelude.{◌≡◌, ℕ, ◌+◌, ◌*◌, ◌<◌, ◌≤◌, length, get_or};
 ghost use Rattle.node_bytes.specs.Nodes.{cell_good, cells_good, aggregate_good, aggregates_good, join_size, group_size, join_good, group_good, size_if, node_size, inputs};

@@ -1,3 +1,5 @@
+#![tactic(auto)]
+
 // Tables in lent memory: whether one that a plan names is right.
 ghost use Rattle.std.specs.Prelude.{◌≡◌, ◌+◌, ◌*◌, ◌<◌, ◌≤◌, length};
 ghost use Rattle.meaning.specs.Running.{cell_right, cells_right};

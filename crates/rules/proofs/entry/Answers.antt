@@ -1,17 +1,12 @@
 -- `rules::entry` gives the entry that the definition of the rule gives: one test, computed over the whole table.
-use mathlib.Core.Bool.{Bool}
-use mathlib.Core.List.{List, [], ◌∷◌}
-use Prim.Native.Nat.{ℕ}
-use lib.Dec.{eqb, eqb→eq}
-use lib.ListN.{get_or}
-use borrow.Author.Rules.{rules}
+use Rattle.std.proofs.Common.{rules, Bool, List, [], ◌∷◌, ℕ, get_or}
+use Rattle.std.proofs.Math.Dec.{eqb, eqb→eq}
 use borrow.Author.Tests.{le-leb, lt-leb}
 use Rattle.meaning.specs.Arrangement.{name_number}
 use Rattle.meaning.specs.Rules.{rule}
 use Rattle.rules.specs.Below.{all_below, below}
 use Rattle.rules.specs.Lines.{names, name_at, is_null, is_always, number_or9, line_of, entry_of}
-use Rattle.rules.proofs.entry.Statement.{statement}
-use Rattle.rules.proofs.entry.Tie as tie
+use Rattle.rules.proofs.entry.Goals as goal
 
 -- the table as the source has it
 table : List (List ℕ)
@@ -30,32 +25,19 @@ table =
 right : ℕ → ℕ → Bool
 right name column = eqb (get_or (get_or table name []) column 0) (entry_of name column)
 
-returns : tie.Need-returns
+pub returns-then-name-ge9 : goal.returns-then-name-ge9
 unfolding entry_of
-returns c = simp (le-leb _ _ c.if1.true)
+returns-then-name-ge9 c = simp (le-leb _ _ c.if-name-ge9.true)
 
-returns-2 : tie.Need-returns-2
+pub returns-then-column-ge6 : goal.returns-then-column-ge6
 unfolding entry_of
-returns-2 c = simp (lt-leb _ _ c.before.if1.false, le-leb _ _ c.if2.true)
+returns-then-column-ge6 c = simp (lt-leb _ _ c.if-name-ge9.false, le-leb _ _ c.if-column-ge6.true)
 
-mul-result : tie.Need-overflow-mul-result
-mul-result c = search rules
-
-index-1-result : tie.Need-bounds-1-result
-index-1-result c = search rules
-
-index-2-result : tie.Need-bounds-2-result
-index-2-result c = search rules
-
-returns-3 : tie.Need-returns-3
+pub returns : goal.returns
 unfolding table right entry_of line_of name_at names is_null is_always number_or9 rule name_number
-returns-3 c =
+returns c =
     eqb→eq _ _
-    (below (right c.before.before.before.args.name) 6
-    (below (λ (k : ℕ). all_below 6 (right k)) 9 tt c.before.before.before.args.name (search rules))
-    c.before.before.before.args.column
+    (below (right c.args.name) 6
+    (below (λ (k : ℕ). all_below 6 (right k)) 9 tt c.args.name (search rules))
+    c.args.column
     (search rules))
-
-pub entry_spec : {M : Type 1} → statement M
-entry_spec =
-    tie.close (tie.spec returns returns-2 mul-result index-1-result index-2-result returns-3)

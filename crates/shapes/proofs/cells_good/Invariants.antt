@@ -1,0 +1,13 @@
+-- `shapes::cells_good` tests each default: a walk over things of nine bytes.
+use mathlib.Core.Path.{sym, ◌∙◌}
+use native.Mathlib.Omega.{arith}
+use borrow.Author.Tests.{not-true, not-false}
+use Rattle.node_bytes.specs.Nodes.{cell_good, cells_good}
+use Rattle.node_bytes.specs.Rows.{Walk, walk_starts, walk_passes, walk_fails, walk_ends}
+use Rattle.shapes.proofs.cells_good.Given as goal
+
+abbrev pub invariant-loop-left : goal.invariant-loop-left
+invariant-loop-left l = Walk (cell_good l.s) 9 l.from l.n l.at l.left
+
+abbrev pub decreases-loop-left : goal.decreases-loop-left
+decreases-loop-left l = l.left
