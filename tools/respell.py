@@ -11,9 +11,9 @@ import pathlib
 import re
 
 ROOT = pathlib.Path(__file__).resolve().parent.parent
-NAME = r"[^\s(){}\[\].;,@\"«»]+"
+NAME = r"[^\s(){}\[\].;,@\"«»`]+"
 TOKEN = re.compile(NAME)
-CAMEL = re.compile(r"[a-z].*[a-z0-9][A-Z]")
+CAMEL = re.compile(r"[a-z](?:.*[a-z0-9])?[A-Z]")
 LOCAL = re.compile(r"[a-z][a-z0-9]*(?:[A-Z][a-z0-9]*)+'*")
 DECLARED = re.compile(rf"(?m)^ *(?:(?:pub|unfoldable|abbrev) )*(?!use\b|module\b|pub\b|data\b|record\b|unfolding\b)({NAME}) : ")
 MEMBERS = re.compile(rf"(?m)^  (?:pub )?({NAME}(?: {NAME})+) : ")
@@ -42,11 +42,13 @@ def declared():
     for path in own_files():
         text = re.sub(r"--.*", "", path.read_text())
         names |= {m[1] for m in DECLARED.finditer(text)}
-        names |= {word for word in TOKEN.findall(text) if LOCAL.fullmatch(word)}
         for m in MEMBERS.finditer(text):
             names |= set(m[1].split())
         for block in RECORD.finditer(text):
             fields |= set(re.findall(rf"(?m)^ +(?:pub )?({NAME}) : ", block[0]))
+    for path in texts():
+        if path.suffix == ".antt":
+            names |= {word for word in TOKEN.findall(path.read_text()) if LOCAL.fullmatch(word)}
     return sorted(names, key=lambda name: ("-" in name, name)), fields
 
 

@@ -138,7 +138,7 @@ reading_own (distinct_count v) = refl
 reading_own (weighted_sum v c) = refl
 reading_own (weighted_count v c) = refl
 
--- the test of three numbers that `aggregateGood` makes of three bytes
+-- the test of three numbers that `aggregate_good` makes of three bytes
 abbrev three_good : ℕ → ℕ → ℕ → Bool
 three_good n v c = ltb n 9 && ((ltb 0 (entry_of n 0) || eqb v 0) && (ltb 1 (entry_of n 0) || eqb c 0))
 

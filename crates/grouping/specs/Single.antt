@@ -150,7 +150,7 @@ no_second (weighted_sum v c) d = false_true d
 no_second (weighted_count v c) d = false_true d
 
 -- the values of one row ascend
-given_up : {n : Name} {v : ℤ} {vMark : ℕ} {c : ℤ} {cMark : ℕ} {ys : List ℤ} → Gives n v vMark c cMark ys → upwards (ys ++ []) ≡ true
+given_up : {n : Name} {v : ℤ} {v_mark : ℕ} {c : ℤ} {c_mark : ℕ} {ys : List ℤ} → Gives n v v_mark c c_mark ys → upwards (ys ++ []) ≡ true
 unfolding upwards upwards_from
 given_up (nothing s) = refl
 given_up (one z s a same) = refl

@@ -12,8 +12,8 @@ pub data Kind : Type 0 where
 pub data KindRule : Type 0 where
   always-weight kind_of_v : KindRule
 
--- A line of the rule table. `columns` is how many columns the aggregate reads; `noValue` is what the aggregate gives where it has no value; `partial` is refused where none;
--- `final` reads the partial's column; `otherSide` is weighted by c where it is a weighted aggregate.
+-- A line of the rule table. `columns` is how many columns the aggregate reads; `no_value` is what the aggregate gives where it has no value; `partial` is refused where none;
+-- `final` reads the partial's column; `other_side` is weighted by c where it is a weighted aggregate.
 pub record Rule : Type 0 where
   pub columns : ℕ
   pub no_value : Cell

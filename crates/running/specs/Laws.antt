@@ -14,7 +14,7 @@ use Rattle.running.specs.States.{repeats_of, takes_of, amount_of, start_of, add_
 use Rattle.running.specs.Steps.{repeats_yes, repeats_no, add_not-taken, add_repeated, add_taken, merge_none, merge_some}
 use Rattle.running.specs.Ascent.{upwards, last_of, last_more}
 use Rattle.running.specs.Values.{is_distinct, is_any, any-more, Rises, none_number, answer-both, answer_new, answer-same}
-use Rattle.running.specs.Rows.{taken_by, vCell, cCell, taken-by, Gives, nothing, one, gives, given_size}
+use Rattle.running.specs.Rows.{taken_by, v_cell, c_cell, taken-by, Gives, nothing, one, gives, given_size}
 use Rattle.running.specs.Sizes.{most_of, most-append, answer-size}
 
 -- This state has taken these values, in this order. Its value is the answer's number, 0 where there is none; a distinct one's
@@ -35,13 +35,13 @@ abbrev pub RoomForCells : Running → Cell → Cell → Type 0
 RoomForCells st p q = Room st (cell_number p) (cell_mark p) (cell_number q) (cell_mark q)
 
 -- one row: the state as it was, as it was though the last value came again, or with one value more
-module _ {n : Name} {xs : List ℤ} {st : Running} (t : Took n xs st) (v : ℤ) (vMark : ℕ) (c : ℤ) (cMark : ℕ) where
-  took_again : (z : ℤ) → takes_of (name_number n) vMark cMark ≡ true → (is_distinct n ≡ true → v ≡ z) → Rises n (xs ++ z ∷ [])
-      → repeats_of st.name st.some st.last v ≡ true → Took n (xs ++ z ∷ []) (add_to st v vMark c cMark)
+module _ {n : Name} {xs : List ℤ} {st : Running} (t : Took n xs st) (v : ℤ) (v_mark : ℕ) (c : ℤ) (c_mark : ℕ) where
+  took_again : (z : ℤ) → takes_of (name_number n) v_mark c_mark ≡ true → (is_distinct n ≡ true → v ≡ z) → Rises n (xs ++ z ∷ [])
+      → repeats_of st.name st.some st.last v ≡ true → Took n (xs ++ z ∷ []) (add_to st v v_mark c c_mark)
   took_again z s same h r =
       let y = repeats_yes st.name st.some st.last v r in
       let d : is_distinct n ≡ true = rw t.named at y.2 in
-      subst (Took n (xs ++ z ∷ [])) (add_repeated st v vMark c cMark (rw t.named s) refl r refl refl)
+      subst (Took n (xs ++ z ∷ [])) (add_repeated st v v_mark c c_mark (rw t.named s) refl r refl refl)
       (record {
         named = t.named;
         any = y.0 ∙ sym (any-more xs z []);
@@ -50,11 +50,11 @@ module _ {n : Name} {xs : List ℤ} {st : Running} (t : Took n xs st) (v : ℤ) 
         rises = h;
       })
 
-  took_new : (z : ℤ) → takes_of (name_number n) vMark cMark ≡ true → amount_of (name_number n) v c ≡ made_of n z []
+  took_new : (z : ℤ) → takes_of (name_number n) v_mark c_mark ≡ true → amount_of (name_number n) v c ≡ made_of n z []
       → (is_distinct n ≡ true → v ≡ z) → Rises n (xs ++ z ∷ []) → repeats_of st.name st.some st.last v ≡ false
-      → Took n (xs ++ z ∷ []) (add_to st v vMark c cMark)
+      → Took n (xs ++ z ∷ []) (add_to st v v_mark c c_mark)
   took_new z s a same h r =
-      subst (Took n (xs ++ z ∷ [])) (add_taken st v vMark c cMark (rw t.named s) refl r refl refl refl refl refl refl)
+      subst (Took n (xs ++ z ∷ [])) (add_taken st v v_mark c c_mark (rw t.named s) refl r refl refl refl refl refl refl)
       (record {
         named = t.named;
         any = sym (any-more xs z []);
@@ -65,11 +65,11 @@ module _ {n : Name} {xs : List ℤ} {st : Running} (t : Took n xs st) (v : ℤ) 
         rises = h;
       })
 
-  took_given : {ys : List ℤ} → Gives n v vMark c cMark ys → Rises n (xs ++ ys) → Took n (xs ++ ys) (add_to st v vMark c cMark)
-  took_given (nothing s) h = subst₂ (Took n) (sym (append-nil xs)) (add_not-taken st v vMark c cMark (rw t.named s)) t
+  took_given : {ys : List ℤ} → Gives n v v_mark c c_mark ys → Rises n (xs ++ ys) → Took n (xs ++ ys) (add_to st v v_mark c c_mark)
+  took_given (nothing s) h = subst₂ (Took n) (sym (append-nil xs)) (add_not-taken st v v_mark c c_mark (rw t.named s)) t
   took_given (one z s a same) h = pick (repeats_of st.name st.some st.last v) refl
     where
-      pick : (b : Bool) → repeats_of st.name st.some st.last v ≡ b → Took n (xs ++ z ∷ []) (add_to st v vMark c cMark)
+      pick : (b : Bool) → repeats_of st.name st.some st.last v ≡ b → Took n (xs ++ z ∷ []) (add_to st v v_mark c c_mark)
       pick true r = took_again z s same h r
       pick false r = took_new z s a same h r
 
@@ -85,11 +85,11 @@ took_cells {n} t p q h = took_given t (cell_number p) (cell_mark p) (cell_number
 
 -- the same for a row of an aggregate
 pub took_add : (a : Aggregate) (r : Row) {xs : List ℤ} {st : Running} → Took (name_of a) xs st → Rises (name_of a) (xs ++ taken a r)
-    → Took (name_of a) (xs ++ taken a r) (add_cells st (vCell a r) (cCell a r))
+    → Took (name_of a) (xs ++ taken a r) (add_cells st (v_cell a r) (c_cell a r))
 took_add a r {xs} {st} t =
-    subst (λ (ys : List ℤ). Rises (name_of a) (xs ++ ys) → Took (name_of a) (xs ++ ys) (add_cells st (vCell a r) (cCell a r)))
+    subst (λ (ys : List ℤ). Rises (name_of a) (xs ++ ys) → Took (name_of a) (xs ++ ys) (add_cells st (v_cell a r) (c_cell a r)))
     (taken-by a r)
-    (took_cells t (vCell a r) (cCell a r))
+    (took_cells t (v_cell a r) (c_cell a r))
 
 -- "two over separate rows, unless distinct, may be merged into the one over both"
 merge_any : {n : Name} {xs : List ℤ} {a b : Running} (y : ℤ) (ys : List ℤ) → is_distinct n ≡ false → Took n xs a → Took n (y ∷ ys) b

@@ -26,13 +26,13 @@ taken_by WeightedSum p q = product p q
 taken_by WeightedCount p q = weight_of p q
 
 -- the cells v and c that an aggregate reads of a row; where it reads none, any will do, and this is that of column 0
-abbrev pub vCell : Aggregate → Row → Cell
-vCell a r = cell r (get_or (columns_read a) 0 0)
+abbrev pub v_cell : Aggregate → Row → Cell
+v_cell a r = cell r (get_or (columns_read a) 0 0)
 
-abbrev pub cCell : Aggregate → Row → Cell
-cCell a r = cell r (get_or (columns_read a) 1 0)
+abbrev pub c_cell : Aggregate → Row → Cell
+c_cell a r = cell r (get_or (columns_read a) 1 0)
 
-pub taken-by : (a : Aggregate) (r : Row) → taken_by (name_of a) (vCell a r) (cCell a r) ≡ taken a r
+pub taken-by : (a : Aggregate) (r : Row) → taken_by (name_of a) (v_cell a r) (c_cell a r) ≡ taken a r
 unfolding taken_by taken name_of columns_read
 taken-by rows r = refl
 taken-by (count v) r = refl
@@ -45,10 +45,10 @@ taken-by (weighted_sum v c) r = refl
 taken-by (weighted_count v c) r = refl
 
 -- a row of these numbers and marks gives no value, or the one value z
-pub data Gives (n : Name) (v : ℤ) (vMark : ℕ) (c : ℤ) (cMark : ℕ) : List ℤ → Type 0 where
-  nothing : takes_of (name_number n) vMark cMark ≡ false → Gives n v vMark c cMark []
-  one : (z : ℤ) → takes_of (name_number n) vMark cMark ≡ true → amount_of (name_number n) v c ≡ made_of n z [] → (is_distinct n ≡ true → v ≡ z)
-      → Gives n v vMark c cMark (z ∷ [])
+pub data Gives (n : Name) (v : ℤ) (v_mark : ℕ) (c : ℤ) (c_mark : ℕ) : List ℤ → Type 0 where
+  nothing : takes_of (name_number n) v_mark c_mark ≡ false → Gives n v v_mark c c_mark []
+  one : (z : ℤ) → takes_of (name_number n) v_mark c_mark ≡ true → amount_of (name_number n) v c ≡ made_of n z [] → (is_distinct n ≡ true → v ≡ z)
+      → Gives n v v_mark c c_mark (z ∷ [])
 
 pub gives : (n : Name) (p q : Cell) → Gives n (cell_number p) (cell_mark p) (cell_number q) (cell_mark q) (taken_by n p q)
 unfolding taken_by value product weight_of cell_number cell_mark takes_of amount_of made_of total smallest largest ascending into name_number distinct_of
@@ -73,8 +73,8 @@ gives WeightedCount (num v) null = nothing refl
 gives WeightedCount (num v) (num c) = one c refl (sym (+ℤ_idr c)) false_true
 
 -- the size of what a row adds is the most that is made of its values
-pub given_size : {n : Name} {v : ℤ} {vMark : ℕ} {c : ℤ} {cMark : ℕ} {ys : List ℤ} → Gives n v vMark c cMark ys
-    → size_of (name_number n) v vMark c cMark ≤ most_of n ys
+pub given_size : {n : Name} {v : ℤ} {v_mark : ℕ} {c : ℤ} {c_mark : ℕ} {ys : List ℤ} → Gives n v v_mark c c_mark ys
+    → size_of (name_number n) v v_mark c c_mark ≤ most_of n ys
 unfolding size_of
 given_size (nothing s) = rw s (omega arith)
 given_size {n} (one z s a same) = rw (s, a) (made-size n z [])

@@ -16,8 +16,8 @@ repeats_of name some last v = some && (eq_z last v && distinct_of name)
 
 -- "Nulls are skipped.": whether a row whose v and c have these marks is taken; a count of rows takes each
 unfoldable pub takes_of : ℕ → ℕ → ℕ → Bool
-takes_of name vMark cMark =
-    cond (eqb name 0) true (cond (ltb name 7) (eqb vMark 0) (eqb vMark 0 && eqb cMark 0))
+takes_of name v_mark c_mark =
+    cond (eqb name 0) true (cond (ltb name 7) (eqb v_mark 0) (eqb v_mark 0 && eqb c_mark 0))
 
 -- by how much a row that is taken counts: 1 for a count, v times c or c for a weighted one, else v
 unfoldable pub amount_of : ℕ → ℤ → ℤ → ℤ
@@ -42,16 +42,16 @@ take_of st v c =
 
 -- "takes rows one at a time": the state after one row, by its cells v and c and their marks
 unfoldable pub add_to : Running → ℤ → ℕ → ℤ → ℕ → Running
-add_to st v vMark c cMark =
-    cond (takes_of st.name vMark cMark) (cond (repeats_of st.name st.some st.last v) st (take_of st v c)) st
+add_to st v v_mark c c_mark =
+    cond (takes_of st.name v_mark c_mark) (cond (repeats_of st.name st.some st.last v) st (take_of st v c)) st
 
 -- the size of what a row adds at the most
 unfoldable pub size_of : ℕ → ℤ → ℕ → ℤ → ℕ → ℕ
-size_of name v vMark c cMark = cond (takes_of name vMark cMark) (nat_abs (amount_of name v c)) 0
+size_of name v v_mark c c_mark = cond (takes_of name v_mark c_mark) (nat_abs (amount_of name v c)) 0
 
 -- the sum with one row more stays within 64 bits, signs dropped
-pub record Room (st : Running) (v : ℤ) (vMark : ℕ) (c : ℤ) (cMark : ℕ) : Type 0 where
-  pub small : nat_abs st.value + size_of st.name v vMark c cMark < 2 ^ 63
+pub record Room (st : Running) (v : ℤ) (v_mark : ℕ) (c : ℤ) (c_mark : ℕ) : Type 0 where
+  pub small : nat_abs st.value + size_of st.name v v_mark c c_mark < 2 ^ 63
 
 -- "two over separate rows, unless distinct, may be merged into the one over both"; a distinct one stays as it is
 unfoldable pub merge_of : Running → Running → Running

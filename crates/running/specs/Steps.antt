@@ -31,26 +31,26 @@ running_eq e f = cc
 
 -- `add`: the row is not taken; it repeats the last one; it is taken. b and y are what a call gave; l, w, x, u and a are cells as they
 -- come back from their bits
-module _ (st : Running) (v : ℤ) (vMark : ℕ) (c : ℤ) (cMark : ℕ) where
-  pub add_not-taken : takes_of st.name vMark cMark ≡ false → st ≡ add_to st v vMark c cMark
+module _ (st : Running) (v : ℤ) (v_mark : ℕ) (c : ℤ) (c_mark : ℕ) where
+  pub add_not-taken : takes_of st.name v_mark c_mark ≡ false → st ≡ add_to st v v_mark c c_mark
   unfolding add_to
   add_not-taken t = rw t
 
-  pub add_repeated : {b : Bool} {l w : ℤ} → takes_of st.name vMark cMark ≡ true
+  pub add_repeated : {b : Bool} {l w : ℤ} → takes_of st.name v_mark c_mark ≡ true
       → b ≡ repeats_of st.name st.some l w → b ≡ true → l ≡ st.last → w ≡ v
-      → st ≡ add_to st v vMark c cMark
+      → st ≡ add_to st v v_mark c c_mark
   unfolding add_to
   add_repeated t e r el ew = rw (t, rw (el, ew) at (sym e ∙ r))
 
-  pub add_taken : {b : Bool} {l w x y u a : ℤ} → takes_of st.name vMark cMark ≡ true
+  pub add_taken : {b : Bool} {l w x y u a : ℤ} → takes_of st.name v_mark c_mark ≡ true
       → b ≡ repeats_of st.name st.some l w → b ≡ false → l ≡ st.last → w ≡ v
       → x ≡ y → y ≡ combine_of st.name st.some u a → u ≡ st.value → a ≡ amount_of st.name v c
-      → record { name = st.name; some = true; value = x; last = w } ≡ add_to st v vMark c cMark
+      → record { name = st.name; some = true; value = x; last = w } ≡ add_to st v v_mark c c_mark
   unfolding add_to take_of
   add_taken t e r el ew ex ey eu ea = rw (t, rw (el, ew) at (sym e ∙ r)) (running_eq (ex ∙ (rw (eu, ea) at ey)) ew)
 
   -- what a row that is taken has room for
-  pub room-taken : takes_of st.name vMark cMark ≡ true → Room st v vMark c cMark
+  pub room-taken : takes_of st.name v_mark c_mark ≡ true → Room st v v_mark c c_mark
       → nat_abs st.value + nat_abs (amount_of st.name v c) < 2 ^ 63
   unfolding size_of
   room-taken t r = rw t at r.small

@@ -18,28 +18,28 @@ abbrev decreases-loop : tie.decreases-loop
 decreases-loop cells₀ marks₀ from n w to j₀ cells marks j = n - j
 
 -- the cell to read lies below the room
-inBelow : (c : tie.In-loop invariant-loop decreases-loop)
+in_below : (c : tie.In-loop invariant-loop decreases-loop)
     → c.before.before.args.from + c.before.loop.j * c.before.before.args.w < c.before.before.args.to
-inBelow c = c.before.before.requires.below c.before.loop.j c.loop-test.true
+in_below c = c.before.before.requires.below c.before.loop.j c.loop-test.true
 
 loop-holds : tie.Need-loop-init invariant-loop decreases-loop
 loop-holds c = ((picked_none _ _ _, picked_none _ _ _), omega arith)
 
 mul-place : tie.Need-overflow-mul-place invariant-loop decreases-loop
-mul-place c = omega (arith, inBelow c, c.before.before.requires.cells_to)
+mul-place c = omega (arith, in_below c, c.before.before.requires.cells_to)
 
 add-place : tie.Need-overflow-add-place invariant-loop decreases-loop
-add-place c = omega (arith, inBelow c, c.before.before.requires.cells_to)
+add-place c = omega (arith, in_below c, c.before.before.requires.cells_to)
 
 mul-cell : tie.Need-overflow-mul-cell invariant-loop decreases-loop
-mul-cell c = omega (arith, inBelow c, c.before.before.requires.cells_to)
+mul-cell c = omega (arith, in_below c, c.before.before.requires.cells_to)
 
 slice-copy-out-cell : tie.Need-slice-copy-out-cell invariant-loop decreases-loop
-slice-copy-out-cell c = omega (arith, inBelow c, c.before.before.requires.cells_to, c.before.loop.invariant.0.0.kept.long)
+slice-copy-out-cell c = omega (arith, in_below c, c.before.before.requires.cells_to, c.before.loop.invariant.0.0.kept.long)
 
 slice-read-mark : tie.Need-slice-read-mark invariant-loop decreases-loop
 slice-read-mark c =
-    omega (arith, inBelow c.before.before, c.before.before.before.before.requires.marks_to, c.before.before.before.loop.invariant.0.1.kept.long)
+    omega (arith, in_below c.before.before, c.before.before.before.before.requires.marks_to, c.before.before.before.loop.invariant.0.1.kept.long)
 
 add-cell : tie.Need-overflow-add-cell invariant-loop decreases-loop
 add-cell c = omega (arith, c.before.before.before.before.requires.cells_to)
@@ -66,7 +66,7 @@ loop-again : tie.Need-loop-preserved invariant-loop decreases-loop
 loop-again c =
     let s = c.before.before.before.before in
     let l = c.before.before.before.loop in
-    let b = inBelow c.before.before in
+    let b = in_below c.before.before in
     let e = to_z-of_z {w = w64} {z = get_or l.cells (s.args.from + l.j * s.args.w) (pos 0)} (record { sfits = c.before.cell.given }) in
     let lc : s.args.to + l.j < length s.args.cells.now = omega (arith, s.requires.cells_to) in
     let lm : s.args.to + l.j < length s.args.marks.now = omega (arith, s.requires.marks_to) in (

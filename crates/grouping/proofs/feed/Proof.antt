@@ -18,15 +18,15 @@ abbrev decreases-loop : tie.decreases-loop
 decreases-loop name v c cells marks base rows w state₀ k₀ state k = rows - k
 
 -- the row to read lies inside
-inCells : (c : tie.In-loop invariant-loop decreases-loop)
+in_cells : (c : tie.In-loop invariant-loop decreases-loop)
     → c.before.before.before.before.args.base + c.before.loop.k * c.before.before.before.before.args.w + c.before.before.before.before.args.w
     ≤ length c.before.before.before.before.args.cells.now
-inCells c = row-cells c.before.before.before.before.requires c.before.loop.k c.loop-test.true
+in_cells c = row-cells c.before.before.before.before.requires c.before.loop.k c.loop-test.true
 
-inMarks : (c : tie.In-loop invariant-loop decreases-loop)
+in_marks : (c : tie.In-loop invariant-loop decreases-loop)
     → c.before.before.before.before.args.base + c.before.loop.k * c.before.before.before.before.args.w + c.before.before.before.before.args.w
     ≤ length c.before.before.before.before.args.marks.now
-inMarks c = row-marks c.before.before.before.before.requires c.before.loop.k c.loop-test.true
+in_marks c = row-marks c.before.before.before.before.requires c.before.loop.k c.loop-test.true
 
 new-requires : tie.Need-new-requires invariant-loop decreases-loop
 new-requires c κs = search rules
@@ -35,41 +35,41 @@ loop-holds : tie.Need-loop-init invariant-loop decreases-loop
 loop-holds c = (fed_none c.before.before.requires c.new.ensures, omega arith)
 
 mul-row : tie.Need-overflow-mul-row invariant-loop decreases-loop
-mul-row c = omega (arith, inCells c)
+mul-row c = omega (arith, in_cells c)
 
 add_row : tie.Need-overflow-add-row invariant-loop decreases-loop
-add_row c = omega (arith, inCells c)
+add_row c = omega (arith, in_cells c)
 
 add-v-cell : tie.Need-overflow-add-v-cell invariant-loop decreases-loop
-add-v-cell c = omega (arith, inCells c, c.before.before.before.before.requires.v_in)
+add-v-cell c = omega (arith, in_cells c, c.before.before.before.before.requires.v_in)
 
 mul-v-cell : tie.Need-overflow-mul-v-cell invariant-loop decreases-loop
-mul-v-cell c = omega (arith, inCells c, c.before.before.before.before.requires.v_in)
+mul-v-cell c = omega (arith, in_cells c, c.before.before.before.before.requires.v_in)
 
 shared-slice-copy-out-v-cell : tie.Need-shared-slice-copy-out-v-cell invariant-loop decreases-loop
-shared-slice-copy-out-v-cell c = omega (arith, inCells c, c.before.before.before.before.requires.v_in)
+shared-slice-copy-out-v-cell c = omega (arith, in_cells c, c.before.before.before.before.requires.v_in)
 
 add-v-mark : tie.Need-overflow-add-v-mark invariant-loop decreases-loop
-add-v-mark c = omega (arith, inCells c.before, c.before.before.before.before.before.requires.v_in)
+add-v-mark c = omega (arith, in_cells c.before, c.before.before.before.before.before.requires.v_in)
 
 shared-slice-read-v-mark : tie.Need-shared-slice-read-v-mark invariant-loop decreases-loop
-shared-slice-read-v-mark c = omega (arith, inMarks c.before.before, c.before.before.before.before.before.before.requires.v_in)
+shared-slice-read-v-mark c = omega (arith, in_marks c.before.before, c.before.before.before.before.before.before.requires.v_in)
 
 add-c-cell : tie.Need-overflow-add-c-cell invariant-loop decreases-loop
-add-c-cell c = omega (arith, inCells c.before.before, c.before.before.before.before.before.before.requires.c_in)
+add-c-cell c = omega (arith, in_cells c.before.before, c.before.before.before.before.before.before.requires.c_in)
 
 mul-c-cell : tie.Need-overflow-mul-c-cell invariant-loop decreases-loop
-mul-c-cell c = omega (arith, inCells c.before.before, c.before.before.before.before.before.before.requires.c_in)
+mul-c-cell c = omega (arith, in_cells c.before.before, c.before.before.before.before.before.before.requires.c_in)
 
 shared-slice-copy-out-c-cell : tie.Need-shared-slice-copy-out-c-cell invariant-loop decreases-loop
-shared-slice-copy-out-c-cell c = omega (arith, inCells c.before.before, c.before.before.before.before.before.before.requires.c_in)
+shared-slice-copy-out-c-cell c = omega (arith, in_cells c.before.before, c.before.before.before.before.before.before.requires.c_in)
 
 add-c-mark : tie.Need-overflow-add-c-mark invariant-loop decreases-loop
-add-c-mark c = omega (arith, inCells c.before.before.before, c.before.before.before.before.before.before.before.requires.c_in)
+add-c-mark c = omega (arith, in_cells c.before.before.before, c.before.before.before.before.before.before.before.requires.c_in)
 
 shared-slice-read-c-mark : tie.Need-shared-slice-read-c-mark invariant-loop decreases-loop
 shared-slice-read-c-mark c =
-    omega (arith, inMarks c.before.before.before.before, c.before.before.before.before.before.before.before.before.requires.c_in)
+    omega (arith, in_marks c.before.before.before.before, c.before.before.before.before.before.before.before.before.requires.c_in)
 
 add-requires : tie.Need-add-requires invariant-loop decreases-loop
 add-requires c κs =

@@ -19,9 +19,9 @@ abbrev decreases-loop : tie.decreases-loop
 decreases-loop s from n cells₀ marks₀ row to j₀ cells marks j = n - j
 
 -- the cell to read lies below the room
-inBelow : (c : tie.In-loop invariant-loop decreases-loop)
+in_below : (c : tie.In-loop invariant-loop decreases-loop)
     → c.before.before.args.row + byte c.before.before.args.s.now (c.before.before.args.from + c.before.loop.j) < c.before.before.args.to
-inBelow c = c.before.before.requires.pick.below c.before.loop.j c.loop-test.true
+in_below c = c.before.before.requires.pick.below c.before.loop.j c.loop-test.true
 
 loop-holds : tie.Need-loop-init invariant-loop decreases-loop
 loop-holds c = ((picked_none _ _ _, picked_none _ _ _), omega arith)
@@ -36,19 +36,19 @@ cast-place : tie.Need-overflow-cast-place invariant-loop decreases-loop
 cast-place c = omega (arith, c.shared-slice-known.given (c.before.before.before.args.from + c.before.before.loop.j))
 
 add-place-2 : tie.Need-overflow-add-place-2 invariant-loop decreases-loop
-add-place-2 c = omega (arith, inBelow c.before, c.before.before.before.requires.pick.cells_to)
+add-place-2 c = omega (arith, in_below c.before, c.before.before.before.requires.pick.cells_to)
 
 mul-cell : tie.Need-overflow-mul-cell invariant-loop decreases-loop
-mul-cell c = omega (arith, inBelow c.before, c.before.before.before.requires.pick.cells_to)
+mul-cell c = omega (arith, in_below c.before, c.before.before.before.requires.pick.cells_to)
 
 slice-copy-out-cell : tie.Need-slice-copy-out-cell invariant-loop decreases-loop
-slice-copy-out-cell c = omega (arith, inBelow c.before, c.before.before.before.requires.pick.cells_to, c.before.before.loop.invariant.0.0.kept.long)
+slice-copy-out-cell c = omega (arith, in_below c.before, c.before.before.before.requires.pick.cells_to, c.before.before.loop.invariant.0.0.kept.long)
 
 slice-read-mark : tie.Need-slice-read-mark invariant-loop decreases-loop
 slice-read-mark c =
     omega (
       arith,
-      inBelow c.before.before.before,
+      in_below c.before.before.before,
       c.before.before.before.before.before.requires.pick.marks_to,
       c.before.before.before.before.loop.invariant.0.1.kept.long,
     )
@@ -80,7 +80,7 @@ loop-again : tie.Need-loop-preserved invariant-loop decreases-loop
 loop-again c =
     let s = c.before.before.before.before.before in
     let l = c.before.before.before.before.loop in
-    let b = inBelow c.before.before.before in
+    let b = in_below c.before.before.before in
     let e = to_z-of_z {w = w64} {z = get_or l.cells (s.args.row + byte s.args.s.now (s.args.from + l.j)) (pos 0)} (record { sfits = c.before.cell.given }) in
     let lc : s.args.to + l.j < length s.args.cells.now = omega (arith, s.requires.pick.cells_to) in
     let lm : s.args.to + l.j < length s.args.marks.now = omega (arith, s.requires.pick.marks_to) in (

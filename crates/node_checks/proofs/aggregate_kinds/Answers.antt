@@ -1,0 +1,21 @@
+-- `node_checks::aggregate_kinds` writes the kinds behind those so far: after i turns the next i are those of the definition.
+use mathlib.Core.Path.{◌≡◌}
+use Prim.Native.Nat.{◌+◌, ◌*◌, ◌-◌, ◌≤◌}
+use native.Mathlib.Omega.{arith}
+use lib.ListN.{take}
+use Rattle.node_checks.specs.Weights.{aggregate_kind_at, aggregate_kinds_at}
+use Rattle.node_checks.specs.Steps.{Listed, listed-none, listed_more, listed-ends}
+use Rattle.node_checks.proofs.aggregate_kinds.Goals as goal
+
+pub loop-i-init : goal.loop-i-init
+loop-i-init c = (listed-none _ 3 _ c.args.done _ _ (omega arith) (omega arith), omega arith, omega arith)
+
+pub aggregate_kind-requires : goal.aggregate_kind-requires
+aggregate_kind-requires c = omega (arith, c.requires)
+
+pub loop-i-preserved : goal.loop-i-preserved
+loop-i-preserved c = (listed_more c.loop-i.invariant.0 c.loop-i.at _ _ (omega arith) c.aggregate_kind.ensures (omega arith) (omega arith), omega arith, omega arith)
+
+pub returns : goal.returns
+unfolding aggregate_kinds_at
+returns c = listed-ends c.loop-i.invariant.0 c.args.n (c.args.done + c.args.n) (omega arith) (omega arith)

@@ -1,0 +1,20 @@
+-- `node_checks::append_kinds` writes the right kinds behind the left ones: after i turns i of them stand there.
+use mathlib.Core.Path.{ap, ◌∙◌}
+use mathlib.Core.List.{List, ◌++◌}
+use Prim.Native.Nat.{ℕ, ◌+◌, ◌-◌, ◌≤◌}
+use native.Mathlib.Omega.{arith}
+use lib.ListN.{length, get_or, take}
+use Rattle.node_checks.specs.Steps.{Listed, listed-none, listed_more, listed-ends, list_take}
+use Rattle.node_checks.proofs.append_kinds.Goals as goal
+
+pub loop-i-init : goal.loop-i-init
+loop-i-init c = (listed-none _ 1 _ c.args.l _ _ (omega arith) (omega arith), omega arith, omega arith)
+
+pub kind_of-requires : goal.kind_of-requires
+kind_of-requires c = tt
+
+pub loop-i-preserved : goal.loop-i-preserved
+loop-i-preserved c = (listed_more c.loop-i.invariant.0 c.loop-i.i _ _ (omega arith) c.kind_of.ensures.0 (omega arith) (omega arith), omega arith, omega arith)
+
+pub returns : goal.returns
+returns c = let a = c.args in listed-ends c.loop-i.invariant.0 a.r (a.l + a.r) (omega arith) (omega arith) ∙ ap (λ (xs : List ℕ). take a.l a.left ++ xs) (list_take a.right.now a.r (omega arith))

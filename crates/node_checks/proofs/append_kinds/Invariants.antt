@@ -1,0 +1,14 @@
+-- `node_checks::append_kinds` writes the right kinds behind the left ones: after i turns i of them stand there.
+use mathlib.Core.Path.{ap, ◌∙◌}
+use mathlib.Core.List.{List, ◌++◌}
+use Prim.Native.Nat.{ℕ, ◌+◌, ◌-◌, ◌≤◌}
+use native.Mathlib.Omega.{arith}
+use lib.ListN.{length, get_or, take}
+use Rattle.node_checks.specs.Steps.{Listed, listed-none, listed_more, listed-ends, list_take}
+use Rattle.node_checks.proofs.append_kinds.Given as goal
+
+abbrev pub invariant-loop-i : goal.invariant-loop-i
+invariant-loop-i l = Listed (take l.l l.initial.out) (λ (j : ℕ). get_or l.right j 0) 1 0 l.i (l.l + l.i) l.out × (l.i ≤ l.r) × (l.i ≤ length l.right)
+
+abbrev pub decreases-loop-i : goal.decreases-loop-i
+decreases-loop-i l = l.r - l.i

@@ -1,0 +1,22 @@
+-- `node_checks::column_kinds` writes the kinds from the front: after i turns the first i are those of the definition.
+use mathlib.Core.Path.{refl}
+use mathlib.Core.List.{[]}
+use Prim.Native.Nat.{◌+◌, ◌-◌, ◌≤◌}
+use native.Mathlib.Omega.{arith}
+use Rattle.node_checks.specs.Weights.{column_kind_at, column_kinds_at}
+use Rattle.node_checks.specs.Steps.{Listed, listed-none, listed_more, listed-ends}
+use Rattle.node_checks.proofs.column_kinds.Goals as goal
+
+pub loop-i-init : goal.loop-i-init
+loop-i-init c = (listed-none _ 1 _ 0 0 _ refl refl, omega arith)
+
+pub kind_of-requires : goal.kind_of-requires
+kind_of-requires c = tt
+
+pub loop-i-preserved : goal.loop-i-preserved
+unfolding column_kind_at
+loop-i-preserved c = (listed_more c.loop-i.invariant.0 (c.args.from + c.loop-i.i) _ _ (omega arith) c.kind_of.ensures.0 (omega arith) refl, omega arith)
+
+pub returns : goal.returns
+unfolding column_kinds_at
+returns c = listed-ends c.loop-i.invariant.0 c.args.n c.args.n (omega arith) (omega arith)

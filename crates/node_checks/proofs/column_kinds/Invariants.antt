@@ -1,0 +1,14 @@
+-- `node_checks::column_kinds` writes the kinds from the front: after i turns the first i are those of the definition.
+use mathlib.Core.Path.{refl}
+use mathlib.Core.List.{[]}
+use Prim.Native.Nat.{◌+◌, ◌-◌, ◌≤◌}
+use native.Mathlib.Omega.{arith}
+use Rattle.node_checks.specs.Weights.{column_kind_at, column_kinds_at}
+use Rattle.node_checks.specs.Steps.{Listed, listed-none, listed_more, listed-ends}
+use Rattle.node_checks.proofs.column_kinds.Given as goal
+
+abbrev pub invariant-loop-i : goal.invariant-loop-i
+invariant-loop-i l = Listed [] (column_kind_at l.s l.kinds) 1 l.from l.i l.i l.out × (l.i ≤ l.n)
+
+abbrev pub decreases-loop-i : goal.decreases-loop-i
+decreases-loop-i l = l.n - l.i

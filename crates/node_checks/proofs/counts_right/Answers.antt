@@ -1,0 +1,27 @@
+-- `node_checks::counts_right` computes the definition by its tests.
+use mathlib.Core.Logic.{⊎_elim}
+use mathlib.Core.Bool.{or-true}
+use native.Mathlib.Omega.{arith}
+use lib.Dec.{eqb}
+use borrow.Author.Tests.{lt-ltb, le-ltb, eq-eqb, ne_eqb, not-true, not-false}
+use Rattle.node_checks.specs.Numbers.{counts_right}
+use Rattle.node_checks.proofs.counts_right.Goals as goal
+
+pub returns-then-lefts-l : goal.returns-then-lefts-l
+unfolding counts_right
+returns-then-lefts-l c =
+    let a = c.args in
+    simp (eq-eqb _ _ c.if-kind-eq3.true, not-true (eqb a.lefts a.l) c.if-lefts-l.true-raw)
+
+pub returns-then-kind-lt2 : goal.returns-then-kind-lt2
+unfolding counts_right
+returns-then-kind-lt2 c = simp (ne_eqb c.args.kind 3 (λ e. omega arith), lt-ltb _ _ c.if-kind-lt2.true)
+
+pub returns-else-kind-lt2 : goal.returns-else-kind-lt2
+unfolding counts_right
+returns-else-kind-lt2 c =
+    let a = c.args in
+    ⊎_elim
+    (λ w. simp (le-ltb _ _ c.if-kind-lt2.false, not-false (eqb a.lefts a.l) w.1.left, or-true))
+    (λ w. simp (le-ltb _ _ c.if-kind-lt2.false, ne_eqb _ _ w.left))
+    c.else-kind-eq3.branch

@@ -1,0 +1,23 @@
+-- `node_checks::join_weights` asks of the left defaults, and then of the right ones behind them.
+use mathlib.Core.Path.{sym, ◌∙◌}
+use Prim.Native.Nat.{ℕ, ◌+◌}
+use native.Mathlib.Omega.{arith}
+use borrow.Author.Rules.{rules}
+use borrow.Author.Tests.{not-true, not-false}
+use Rattle.node_bytes.specs.Nodes.{join_size}
+use Rattle.node_checks.specs.Numbers.{join_weights_at}
+use Rattle.node_checks.proofs.join_weights.Goals as goal
+use Rattle.node_checks.proofs.join_weights.Goals.{After-shared_slice_known-4-1}
+
+-- the node's place, seen from where its count of pairs is read
+abbrev place : After-shared_slice_known-4-1 → ℕ
+place c = c.args.at
+
+pub returns-then-not-defaults_right : goal.returns-then-not-defaults_right
+unfolding join_weights_at
+returns-then-not-defaults_right c = simp (sym c.defaults_right.ensures ∙ c.if-not-defaults_right.true)
+
+pub returns : goal.returns
+unfolding join_weights_at
+returns c =
+    simp (sym c.defaults_right.ensures ∙ c.if-not-defaults_right.false) c.defaults_right-2.ensures

@@ -1,0 +1,18 @@
+-- `node_checks::join_within` asks `up_to` of the columns, and then of the pairs.
+use mathlib.Core.Path.{sym, ◌∙◌}
+use Prim.Native.Nat.{◌+◌}
+use native.Mathlib.Omega.{arith}
+use borrow.Author.Rules.{rules}
+use borrow.Author.Tests.{not-true, not-false}
+use Rattle.meaning.specs.Limits.{most_columns, most_pairs}
+use Rattle.node_bytes.specs.Nodes.{join_size}
+use Rattle.node_checks.specs.Numbers.{join_within_at}
+use Rattle.node_checks.proofs.join_within.Goals as goal
+
+pub returns-then-not-up_to : goal.returns-then-not-up_to
+unfolding join_within_at most_columns
+returns-then-not-up_to c = simp (sym c.up_to_lem.ensures ∙ c.if-not-up_to.true)
+
+pub returns : goal.returns
+unfolding join_within_at most_columns most_pairs
+returns c = simp (sym c.up_to_lem.ensures ∙ c.if-not-up_to.false) c.up_to-2.ensures

@@ -1,0 +1,9 @@
+-- `node_checks::kind_of` reads the kind inside the array, and beyond its end the list of kinds reads 0.
+use mathlib.Core.Path.{sym}
+use native.Mathlib.Omega.{arith}
+use lib.ListN.{get_or-eq_default}
+use borrow.Author.Rules.{rules}
+use Rattle.node_checks.proofs.kind_of.Goals as goal
+
+pub returns : goal.returns
+returns c = (sym (get_or-eq_default c.args.t1 0 (omega arith)), omega arith)

@@ -1,0 +1,12 @@
+-- `regions::clear_marks` clears from the front on, up to the n-th.
+use mathlib.Core.Path.{◌≡◌}
+use Prim.Native.Nat.{◌-◌, ◌≤◌}
+use native.Mathlib.Omega.{arith}
+use Rattle.regions.specs.Clearing.{Cleared, cleared-none, cleared_more}
+use Rattle.regions.proofs.clear_marks.Given as goal
+
+abbrev pub invariant-loop-i : goal.invariant-loop-i
+invariant-loop-i l = Cleared 0 l.initial.marks l.marks l.i × (l.i ≤ l.n)
+
+abbrev pub decreases-loop-i : goal.decreases-loop-i
+decreases-loop-i l = l.n - l.i

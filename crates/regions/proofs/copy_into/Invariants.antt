@@ -1,0 +1,17 @@
+-- `regions::copy_into` copies cell by cell: after i turns the first i cells and marks of the source stand at their new place.
+use mathlib.Core.Path.{◌≡◌, refl}
+use Prim.Native.Nat.{◌+◌, ◌-◌, ◌<◌, ◌≤◌}
+use native.Mathlib.Omega.{arith}
+use lib.ListN.{get_or, length}
+use lib.IntN.{pos}
+use mir.Syntax.{w64}
+use mir.Facts.{to_z-of_z}
+use Rattle.regions.specs.Copying.{Copied, copied_none, copied_more}
+use Rattle.regions.proofs.copy_into.Given as goal
+
+abbrev pub invariant-loop-i : goal.invariant-loop-i
+invariant-loop-i l =
+    (Copied (pos 0) l.source l.initial.cells l.cells l.from l.to l.i × Copied 0 l.source_marks l.initial.marks l.marks l.from l.to l.i) × (l.i ≤ l.n)
+
+abbrev pub decreases-loop-i : goal.decreases-loop-i
+decreases-loop-i l = l.n - l.i

@@ -1,0 +1,17 @@
+-- `regions::copy_within` copies cell by cell: after i turns the first i cells and marks stand at their new place.
+use mathlib.Core.Path.{◌≡◌, ◌∙◌}
+use Prim.Native.Nat.{◌+◌, ◌-◌, ◌<◌, ◌≤◌}
+use native.Mathlib.Omega.{arith}
+use lib.ListN.{get_or, length}
+use lib.IntN.{pos}
+use mir.Syntax.{w64}
+use mir.Facts.{to_z-of_z}
+use Rattle.regions.specs.Copying.{Copied, copied_none, copied_more, source-kept}
+use Rattle.regions.proofs.copy_within.Given as goal
+
+abbrev pub invariant-loop-i : goal.invariant-loop-i
+invariant-loop-i l =
+    (Copied (pos 0) l.initial.cells l.initial.cells l.cells l.from l.to l.i × Copied 0 l.initial.marks l.initial.marks l.marks l.from l.to l.i) × (l.i ≤ l.n)
+
+abbrev pub decreases-loop-i : goal.decreases-loop-i
+decreases-loop-i l = l.n - l.i
