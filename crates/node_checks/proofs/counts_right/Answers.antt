@@ -1,11 +1,11 @@
 -- `node_checks::counts_right` computes the definition by its tests.
-use mathlib.Core.Logic.{⊎_elim}
 use mathlib.Core.Bool.{or-true}
 use native.Mathlib.Omega.{arith}
 use lib.Dec.{eqb}
 use borrow.Author.Tests.{lt-ltb, le-ltb, eq-eqb, ne_eqb, not-true, not-false}
 use Rattle.node_checks.specs.Numbers.{counts_right}
 use Rattle.node_checks.proofs.counts_right.Goals as goal
+use Rattle.node_checks.proofs.counts_right.Goals.{else-kind-eq3-via-then-kind-eq3+else-lefts-l, else-kind-eq3-via-else-kind-eq3}
 
 pub returns-then-lefts-l : goal.returns-then-lefts-l
 unfolding counts_right
@@ -21,7 +21,8 @@ pub returns-else-kind-lt2 : goal.returns-else-kind-lt2
 unfolding counts_right
 returns-else-kind-lt2 c =
     let a = c.args in
-    ⊎_elim
-    (λ w. simp (le-ltb _ _ c.if-kind-lt2.false, not-false (eqb a.lefts a.l) w.1.left, or-true))
-    (λ w. simp (le-ltb _ _ c.if-kind-lt2.false, ne_eqb _ _ w.left))
-    c.else-kind-eq3.branch
+    elim c.else-kind-eq3.branch
+    [ else-kind-eq3-via-then-kind-eq3+else-lefts-l w ↦
+      simp (le-ltb _ _ c.if-kind-lt2.false, not-false (eqb a.lefts a.l) w.if-lefts-l.false-raw, or-true)
+    | else-kind-eq3-via-else-kind-eq3 w ↦ simp (le-ltb _ _ c.if-kind-lt2.false, ne_eqb _ _ w.if-kind-eq3.false)
+    ]

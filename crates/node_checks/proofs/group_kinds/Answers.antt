@@ -7,12 +7,28 @@ use Rattle.node_bytes.specs.Nodes.{group_size}
 use Rattle.node_checks.proofs.group_kinds.Goals as goal
 use Rattle.node_checks.proofs.group_kinds.Goals.{After-shared_slice_known-3-1}
 
+pub bounds-s-at : goal.bounds-s-at
+unfolding group_size
+bounds-s-at c = omega arith
+
+pub bounds-s-at-2 : goal.bounds-s-at-2
+unfolding group_size
+bounds-s-at-2 c = omega arith
+
 -- the node's place, seen from where its last count is read
 abbrev place : After-shared_slice_known-3-1 → ℕ
 place c = c.args.at
 
 pub returns-then-columns-aggregates-gt16 : goal.returns-then-columns-aggregates-gt16
 returns-then-columns-aggregates-gt16 c = λ few. absurd (omega arith)
+
+pub column_kinds-front-requires : goal.column_kinds-front-requires
+unfolding group_size
+column_kinds-front-requires c = omega arith
+
+pub aggregate_kinds-requires : goal.aggregate_kinds-requires
+unfolding group_size
+aggregate_kinds-requires c = omega arith
 
 pub returns : goal.returns
 returns c = λ few. c.aggregate_kinds.ensures ∙ rw c.column_kinds-front.ensures

@@ -6,4 +6,4 @@ use borrow.Author.Rules.{rules}
 use Rattle.node_checks.proofs.kind_of.Goals as goal
 
 pub returns : goal.returns
-returns c = (sym (get_or-eq_default c.args.t1 0 (omega arith)), omega arith)
+returns c = (sym (get_or-eq_default c.args.kinds 0 (omega arith)), omega arith)

@@ -10,13 +10,13 @@ pub loop-i-init : goal.loop-i-init
 loop-i-init c = (cleared-none _, omega arith)
 
 pub offset_bounds-cells-i : goal.offset_bounds-cells-i
-offset_bounds-cells-i c = let z = (goal.at.offset_bounds-cells-i c).Start in omega (arith, c.loop-i-test.true, z.requires, z.well-formed.0)
+offset_bounds-cells-i c = omega (arith, c.loop-i-test.true, c.requires, c.well_formed.0)
 
 pub slice_set_of-cells : goal.slice_set_of-cells
 slice_set_of-cells c = omega (arith, c.loop-i-test.true, c.requires, c.loop-i.invariant.0.long)
 
 pub overflow_add-i : goal.overflow_add-i
-overflow_add-i c = let z = (goal.at.overflow_add-i c).Start in omega (arith, c.loop-i-test.true, z.requires, z.well-formed.0)
+overflow_add-i c = omega (arith, c.loop-i-test.true, c.requires, c.well_formed.0)
 
 pub loop-i-smaller : goal.loop-i-smaller
 loop-i-smaller c = omega (arith, c.loop-i-test.true)

@@ -12,7 +12,7 @@ pub bounds-marks-i : goal.bounds-marks-i
 bounds-marks-i c = omega (arith, c.loop-i-test.true, c.requires, c.loop-i.invariant.0.long)
 
 pub overflow_add-i : goal.overflow_add-i
-overflow_add-i c = let z = (goal.at.overflow_add-i c).Start in omega (arith, c.loop-i-test.true, z.requires, z.well-formed.0)
+overflow_add-i c = omega (arith, c.loop-i-test.true, c.requires, c.well_formed.0)
 
 pub loop-i-smaller : goal.loop-i-smaller
 loop-i-smaller c = omega (arith, c.loop-i-test.true)

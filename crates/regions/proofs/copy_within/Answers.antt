@@ -47,14 +47,13 @@ overflow_add-i c = omega (arith, c.requires.cells_from)
 
 pub loop-i-preserved : goal.loop-i-preserved
 loop-i-preserved c =
-    let s = (goal.at.loop-i-preserved c).Start in
     let l = c.loop-i in
-    let e = to_z-of_z {w = w64} {z = get_or l.cells (s.args.from + l.i) (pos 0)} (record { sfits = c.cell-1.given }) in
-    let lc : s.args.to + l.i < length s.args.cells.now = omega (arith, s.requires.cells_to) in
-    let lm : s.args.to + l.i < length s.args.marks.now = omega (arith, s.requires.marks_to) in (
+    let e = to_z-of_z {w = w64} {z = get_or l.cells (c.args.from + l.i) (pos 0)} (record { sfits = c.cell-1.given }) in
+    let lc : c.args.to + l.i < length c.args.cells.now = omega (arith, c.requires.cells_to) in
+    let lm : c.args.to + l.i < length c.args.marks.now = omega (arith, c.requires.marks_to) in (
       (
-        copied_more _ _ _ _ _ _ _ l.invariant.0.0 lc (e ∙ source-kept l.invariant.0.0 s.requires.apart c.loop-i-test.true),
-        copied_more _ _ _ _ _ _ _ l.invariant.0.1 lm (source-kept l.invariant.0.1 s.requires.apart c.loop-i-test.true),
+        copied_more _ _ _ _ _ _ _ l.invariant.0.0 lc (e ∙ source-kept l.invariant.0.0 c.requires.apart c.loop-i-test.true),
+        copied_more _ _ _ _ _ _ _ l.invariant.0.1 lm (source-kept l.invariant.0.1 c.requires.apart c.loop-i-test.true),
       ),
       omega arith,
     )
