@@ -6,7 +6,7 @@ ghost use Rattle.std.specs.Prelude.{◌≡◌, ◌+◌, ◌<◌, ◌^◌, nat_ab
 ghost use Rattle.running.specs.States.{distinct_of, repeats_of, takes_of, amount_of, combine_of, start_of, add_to, Room, merge_of, RoomForBoth, empty_mark_of, finish_of};
 
 // The number of the aggregate's name; whether a value was taken; the count, sum, least or greatest so far; the v taken last.
-#[derive(Drop)]
+#[derive(Clone, Copy)]
 pub struct Running {
     pub name: u8,
     pub some: bool,

@@ -1,0 +1,8 @@
+-- `Running::new` is the state that has taken nothing.
+use mathlib.Core.Path.{refl}
+use Rattle.running.specs.States.{start_of}
+use Rattle.running.proofs.Running.new.Goals as goal
+
+pub returns : goal.returns
+unfolding start_of
+returns c = refl
