@@ -12,7 +12,7 @@ unfolding most_columns
 returns c =
     table_described
     (record {
-      number = c.verdict_of.ensures ∙ ap (λ (a : Bool). verdict 0 a true true) c.up_to.ensures;
+      number = c.verdict_of.ensures ∙ ap (λ (a : Bool). verdict 0 a true true) c.up_to-within.ensures;
       wide = refl;
       starts = refl;
       parted = refl;
