@@ -1,0 +1,17 @@
+-- `grouping::feed` feeds row by row: after k turns the state has taken the first k rows.
+use mathlib.Core.Path.{◌≡◌}
+use Prim.Native.Nat.{◌+◌, ◌-◌, ◌*◌, ◌≤◌}
+use native.Mathlib.Omega.{arith}
+use borrow.Author.Rules.{rules}
+use lib.ListN.{get_or, length}
+use lib.IntN.{pos}
+use mir.Syntax.{w64}
+use mir.Facts.{to_z-of_z}
+use Rattle.grouping.specs.Feeding.{Fed, fed_none, fed_room, fed_more, row-cells, row-marks}
+use Rattle.grouping.proofs.feed.Given as goal
+
+abbrev pub invariant-loop-k : goal.invariant-loop-k
+invariant-loop-k l = Fed l.name l.v l.c l.cells l.marks l.base l.k l.w l.state × (l.k ≤ l.rows)
+
+abbrev pub decreases-loop-k : goal.decreases-loop-k
+decreases-loop-k l = l.rows - l.k

@@ -1,0 +1,42 @@
+-- `grouping::run_end` goes on while the rows have the first one's key.
+use Prim.Native.Nat.{◌-◌}
+use borrow.Author.Tests.{not-true, not-false}
+use native.Mathlib.Omega.{arith}
+use Rattle.meaning.specs.Running.{rows_from}
+use Rattle.sorting.specs.Sorting.{columns}
+use Rattle.grouping.specs.Ending.{Alike, row-cells, alike-one, keys_in, alike-more, ends-here, ends_last}
+use Rattle.grouping.proofs.run_end.Goals as goal
+
+pub overflow_mul-first : goal.overflow_mul-first
+overflow_mul-first c = omega (arith, row-cells c.requires c.args.i c.requires.before)
+
+pub overflow_add-first : goal.overflow_add-first
+overflow_add-first c = omega (arith, row-cells c.requires c.args.i c.requires.before)
+
+pub overflow_add-end : goal.overflow_add-end
+overflow_add-end c = omega (arith, c.requires.before)
+
+pub loop-end-init : goal.loop-end-init
+loop-end-init c = alike-one c.requires
+
+pub overflow_mul-end : goal.overflow_mul-end
+overflow_mul-end c = omega (arith, row-cells c.requires c.loop-end.end c.loop-end-test.true)
+
+pub overflow_add-base : goal.overflow_add-base
+overflow_add-base c = omega (arith, row-cells c.requires c.loop-end.end c.loop-end-test.true)
+
+pub same_key-requires : goal.same_key-requires
+same_key-requires c = keys_in c.requires c.loop-end.end c.loop-end.invariant c.loop-end-test.true
+
+pub returns-then-not-same_key : goal.returns-then-not-same_key
+returns-then-not-same_key c =
+    ends-here c.requires c.loop-end.end c.loop-end.invariant c.loop-end-test.true c.same_key.ensures
+    (not-true c.same_key.result c.if-not-same_key.true-raw)
+
+pub loop-end-preserved : goal.loop-end-preserved
+loop-end-preserved c =
+    alike-more c.requires c.loop-end.end c.loop-end.invariant c.loop-end-test.true c.same_key.ensures
+    (not-false c.same_key.result c.if-not-same_key.false-raw)
+
+pub returns : goal.returns
+returns c = ends_last c.requires c.loop-end.end c.loop-end.invariant (omega arith)

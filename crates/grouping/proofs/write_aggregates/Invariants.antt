@@ -1,0 +1,13 @@
+-- `grouping::write_aggregates` writes cell by cell: after j turns the first j aggregates stand in the row.
+use mathlib.Core.Path.{◌≡◌}
+use Prim.Native.Nat.{◌-◌, ◌≤◌}
+use native.Mathlib.Omega.{arith}
+use Rattle.grouping.specs.Writing.{CellsDone, cells-none, cells-next, cells-more}
+use Rattle.grouping.proofs.write_aggregates.Given as goal
+
+abbrev pub invariant-loop-j : goal.invariant-loop-j
+invariant-loop-j l =
+    CellsDone l.s l.at l.j l.initial.cells l.initial.marks l.cells l.marks l.base l.rows l.w l.to l.scratch × (l.j ≤ l.n)
+
+abbrev pub decreases-loop-j : goal.decreases-loop-j
+decreases-loop-j l = l.n - l.j
