@@ -7,7 +7,7 @@ use Rattle.meaning.specs.Aggregating.{values_of, aggregate}
 use Rattle.meaning.specs.Grouping.{key, group_row, group_rows}
 use Rattle.meaning.specs.Check.{all, columns_there}
 use Rattle.meaning.specs.Running.{cells_from, rows_from}
-use Rattle.meaning.proofs.Widths.{cells-long, rows_long}
+use Rattle.meaning.proofs.Widths.{rows_long}
 use Rattle.lists.specs.Each.{Each, each_to, each_at, all-each}
 use Rattle.lists.specs.Tests.{and_left, and_right}
 use Rattle.node_bytes.specs.Rows.{every, length_list}

@@ -11,7 +11,7 @@ use Rattle.meaning.specs.Joining.{cell}
 use Rattle.meaning.specs.Aggregating.{values_of, aggregate}
 use Rattle.meaning.specs.Arrangement.{name_number, two_places, aggregate_bytes}
 use Rattle.meaning.specs.Running.{rows_from, cell_number, cell_mark}
-use Rattle.meaning.proofs.Widths.{cells-long, rows_long}
+use Rattle.meaning.proofs.Widths.{rows_long}
 use Rattle.lists.specs.Tests.{and_left, and_right}
 use Rattle.numbers.specs.Integers.{false_true}
 use Rattle.rules.specs.Lines.{name_at, name_at-number}

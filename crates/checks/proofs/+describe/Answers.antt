@@ -38,20 +38,19 @@ overflow_sub-right t c =
 pub describe-left-requires : goal.describe-left-requires
 describe-left-requires t c =
     let l =
-        left-node c.requires (λ i. (c.type_inv.s i).fits) c.if-tag-eq0.false c.if-tag-eq4.false
-        c.describe-right.result c.describe-right.ensures in
+    left-node c.requires (λ i. (c.type_inv.s i).fits) c.if-tag-eq0.false c.if-tag-eq4.false
+    c.describe-right.result c.describe-right.ensures in
     (omega (arith, c.decreases, l.below), l.stands)
 
 pub join_node-requires : goal.join_node-requires
 join_node-requires t c =
     let l =
-        left-node c.requires (λ i. (c.type_inv.s i).fits) c.if-tag-eq0.false c.if-tag-eq4.false
-        c.describe-right.result c.describe-right.ensures in
-    (
+    left-node c.requires (λ i. (c.type_inv.s i).fits) c.if-tag-eq0.false c.if-tag-eq4.false
+    c.describe-right.result c.describe-right.ensures in (
       l.inside,
       (
         left-small c.requires (λ i. (c.type_inv.s i).fits) c.if-tag-eq0.false c.if-tag-eq4.false
-        c.describe-right.result c.describe-right.ensures c.describe-left.result c.describe-left.ensures,
+            c.describe-right.result c.describe-right.ensures c.describe-left.result c.describe-left.ensures,
         l.right-small,
       ),
     )

@@ -1,5 +1,4 @@
 -- `checks::check` is the number of `root_of`.
-use borrow.Author.Rules.{rules}
 use Rattle.checks.specs.Answering.{root_checks}
 use Rattle.checks.proofs.check.Goals as goal
 

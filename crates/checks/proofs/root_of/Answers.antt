@@ -1,5 +1,4 @@
 -- `checks::root_of` answers by the shape of the string, and where that is a plan's within the counts, by the node of its root.
-use borrow.Author.Rules.{rules}
 use borrow.Author.Tests.{not-true, not-false}
 use Rattle.checks.specs.Answering.{root_none, root-nodes, root-leaves, root-some, root-standing, root_described}
 use Rattle.checks.proofs.root_of.Goals as goal

@@ -1,7 +1,6 @@
 -- `checks::table_node` makes the node that describes a table: its number is that of its width, its kinds are plain.
 use mathlib.Core.Path.{refl, ap, ◌∙◌}
 use mathlib.Core.Bool.{Bool, true}
-use borrow.Author.Rules.{rules}
 use Rattle.meaning.specs.Limits.{most_columns}
 use Rattle.checks.specs.Verdicts.{verdict}
 use Rattle.checks.specs.Groups.{table_described}

@@ -1,12 +1,7 @@
 -- `grouping::copy_column` picks cell by cell: after j turns the column's first j cells stand at their new place.
-use mathlib.Core.Path.{◌≡◌, refl}
-use Prim.Native.Nat.{◌+◌, ◌-◌, ◌*◌, ◌<◌, ◌≤◌}
-use native.Mathlib.Omega.{arith}
-use lib.ListN.{get_or, length}
+use Prim.Native.Nat.{◌-◌, ◌≤◌}
 use lib.IntN.{pos}
-use mir.Syntax.{w64}
-use mir.Facts.{to_z-of_z}
-use Rattle.grouping.specs.Picking.{Picked, column_place, picked_none, picked_more}
+use Rattle.grouping.specs.Picking.{Picked, column_place}
 use Rattle.grouping.proofs.copy_column.Given as goal
 
 abbrev pub invariant-loop-j : goal.invariant-loop-j

@@ -1,5 +1,4 @@
 -- `grouping::group_rows` sorts the rows and writes a row for each run: the grouping's rows.
-use borrow.Author.Rules.{rules}
 use native.Mathlib.Omega.{arith}
 use Rattle.grouping.specs.Grouping.{node-inside, sort-room, sorted-room, group-done}
 use Rattle.grouping.proofs.group_rows.Goals as goal

@@ -1,6 +1,5 @@
 -- `grouping::needs_order` says true for the two distinct numbers alone, over two rows or more.
 use native.Mathlib.Omega.{arith}
-use borrow.Author.Rules.{rules}
 use borrow.Author.Tests.{lt-ltb, le-ltb}
 use Rattle.grouping.specs.Single.{needs_order}
 use Rattle.grouping.proofs.needs_order.Goals as goal

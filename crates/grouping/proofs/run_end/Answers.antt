@@ -1,10 +1,7 @@
 -- `grouping::run_end` goes on while the rows have the first one's key.
-use Prim.Native.Nat.{◌-◌}
 use borrow.Author.Tests.{not-true, not-false}
 use native.Mathlib.Omega.{arith}
-use Rattle.meaning.specs.Running.{rows_from}
-use Rattle.sorting.specs.Sorting.{columns}
-use Rattle.grouping.specs.Ending.{Alike, row-cells, alike-one, keys_in, alike-more, ends-here, ends_last}
+use Rattle.grouping.specs.Ending.{row-cells, alike-one, keys_in, alike-more, ends-here, ends_last}
 use Rattle.grouping.proofs.run_end.Goals as goal
 
 pub overflow_mul-first : goal.overflow_mul-first

@@ -1,10 +1,8 @@
 -- `grouping::run_end` goes on while the rows have the first one's key.
 use Prim.Native.Nat.{◌-◌}
-use borrow.Author.Tests.{not-true, not-false}
-use native.Mathlib.Omega.{arith}
 use Rattle.meaning.specs.Running.{rows_from}
 use Rattle.sorting.specs.Sorting.{columns}
-use Rattle.grouping.specs.Ending.{Alike, row-cells, alike-one, keys_in, alike-more, ends-here, ends_last}
+use Rattle.grouping.specs.Ending.{Alike}
 use Rattle.grouping.proofs.run_end.Given as goal
 
 abbrev pub invariant-loop-end : goal.invariant-loop-end

@@ -1,7 +1,6 @@
 -- `grouping::run_state` feeds the rows as they are, or a sorted copy of the column.
 use mathlib.Core.Path.{◌≡◌}
 use mathlib.Core.Bool.{true}
-use borrow.Author.Rules.{rules}
 use borrow.Author.Tests.{not-true, not-false}
 use native.Mathlib.Omega.{arith}
 use Rattle.grouping.specs.Single.{plain-room, plain_done, two_cells, column-starts, column-room, order-room, ordered_room, ordered_done}

@@ -1,8 +1,7 @@
 -- `grouping::write_aggregates` writes cell by cell: after j turns the first j aggregates stand in the row.
 use mathlib.Core.Path.{◌≡◌}
-use Prim.Native.Nat.{◌-◌, ◌≤◌}
 use native.Mathlib.Omega.{arith}
-use Rattle.grouping.specs.Writing.{CellsDone, cells-none, cells-next, cells-more}
+use Rattle.grouping.specs.Writing.{cells-none, cells-next, cells-more}
 use Rattle.grouping.proofs.write_aggregates.Goals as goal
 
 pub loop-j-init : goal.loop-j-init

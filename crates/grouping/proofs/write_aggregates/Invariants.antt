@@ -1,8 +1,6 @@
 -- `grouping::write_aggregates` writes cell by cell: after j turns the first j aggregates stand in the row.
-use mathlib.Core.Path.{◌≡◌}
 use Prim.Native.Nat.{◌-◌, ◌≤◌}
-use native.Mathlib.Omega.{arith}
-use Rattle.grouping.specs.Writing.{CellsDone, cells-none, cells-next, cells-more}
+use Rattle.grouping.specs.Writing.{CellsDone}
 use Rattle.grouping.proofs.write_aggregates.Given as goal
 
 abbrev pub invariant-loop-j : goal.invariant-loop-j

@@ -1,5 +1,4 @@
 -- `grouping::write_group` writes the key and then the aggregates behind it.
-use borrow.Author.Rules.{rules}
 use native.Mathlib.Omega.{arith}
 use Rattle.grouping.specs.Writing.{head_inside, key-room, answers-room, row_done}
 use Rattle.grouping.proofs.write_group.Goals as goal

@@ -1,8 +1,6 @@
 -- `grouping::write_groups` goes from run to run: what is written, with what the rows that are left come to, is all.
 use Prim.Native.Nat.{◌-◌}
-use borrow.Author.Rules.{rules}
-use native.Mathlib.Omega.{arith}
-use Rattle.grouping.specs.Grouping.{Grouped, node-inside, grouped-none, grouped-more, grouped_end, end_room, end_after, end_within, place-room, run-below, count-few, row_room}
+use Rattle.grouping.specs.Grouping.{Grouped}
 use Rattle.grouping.proofs.write_groups.Given as goal
 
 abbrev pub invariant-loop-i : goal.invariant-loop-i

@@ -1,9 +1,6 @@
 -- `node_checks::aggregate_kind` computes the definition by its test.
-use native.Mathlib.Omega.{arith}
-use Prim.Native.Nat.{◌+◌}
 use borrow.Author.Tests.{eq-eqb, ne_eqb}
 use Rattle.node_checks.specs.Weights.{aggregate_kind_at}
-use borrow.Author.Rules.{rules}
 use Rattle.node_checks.proofs.aggregate_kind.Goals as goal
 
 pub returns-then-entry-eq1 : goal.returns-then-entry-eq1

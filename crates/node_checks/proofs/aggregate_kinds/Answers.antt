@@ -1,10 +1,8 @@
 -- `node_checks::aggregate_kinds` writes the kinds behind those so far: after i turns the next i are those of the definition.
-use mathlib.Core.Path.{◌≡◌}
-use Prim.Native.Nat.{◌+◌, ◌*◌, ◌-◌, ◌≤◌}
+use Prim.Native.Nat.{◌+◌}
 use native.Mathlib.Omega.{arith}
-use lib.ListN.{take}
-use Rattle.node_checks.specs.Weights.{aggregate_kind_at, aggregate_kinds_at}
-use Rattle.node_checks.specs.Steps.{Listed, listed-none, listed_more, listed-ends}
+use Rattle.node_checks.specs.Weights.{aggregate_kinds_at}
+use Rattle.node_checks.specs.Steps.{listed-none, listed_more, listed-ends}
 use Rattle.node_checks.proofs.aggregate_kinds.Goals as goal
 
 pub loop-i-init : goal.loop-i-init

@@ -1,9 +1,6 @@
 -- `node_checks::all_different` asks of each column whether it is absent from those behind it: what is left to ask is what the definition asks.
-use mathlib.Core.Path.{◌≡◌, refl, sym, ◌∙◌}
-use Prim.Native.Nat.{◌+◌}
+use mathlib.Core.Path.{refl, sym, ◌∙◌}
 use native.Mathlib.Omega.{arith}
-use borrow.Author.Tests.{not-true, not-false}
-use Rattle.node_checks.specs.Columns.{distinct_at}
 use Rattle.node_checks.specs.Steps.{distinct_none, distinct_fails, distinct-passes}
 use Rattle.node_checks.proofs.all_different.Goals as goal
 

@@ -1,10 +1,7 @@
 -- `node_checks::all_different` asks of each column whether it is absent from those behind it: what is left to ask is what the definition asks.
-use mathlib.Core.Path.{◌≡◌, refl, sym, ◌∙◌}
+use mathlib.Core.Path.{◌≡◌}
 use Prim.Native.Nat.{◌+◌}
-use native.Mathlib.Omega.{arith}
-use borrow.Author.Tests.{not-true, not-false}
 use Rattle.node_checks.specs.Columns.{distinct_at}
-use Rattle.node_checks.specs.Steps.{distinct_none, distinct_fails, distinct-passes}
 use Rattle.node_checks.proofs.all_different.Given as goal
 
 abbrev pub invariant-loop-left : goal.invariant-loop-left

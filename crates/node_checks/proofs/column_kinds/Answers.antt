@@ -1,10 +1,9 @@
 -- `node_checks::column_kinds` writes the kinds from the front: after i turns the first i are those of the definition.
 use mathlib.Core.Path.{refl}
-use mathlib.Core.List.{[]}
-use Prim.Native.Nat.{◌+◌, ◌-◌, ◌≤◌}
+use Prim.Native.Nat.{◌+◌}
 use native.Mathlib.Omega.{arith}
 use Rattle.node_checks.specs.Weights.{column_kind_at, column_kinds_at}
-use Rattle.node_checks.specs.Steps.{Listed, listed-none, listed_more, listed-ends}
+use Rattle.node_checks.specs.Steps.{listed-none, listed_more, listed-ends}
 use Rattle.node_checks.proofs.column_kinds.Goals as goal
 
 pub loop-i-init : goal.loop-i-init

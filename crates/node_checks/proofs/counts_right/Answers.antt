@@ -21,8 +21,8 @@ pub returns-else-kind-lt2 : goal.returns-else-kind-lt2
 unfolding counts_right
 returns-else-kind-lt2 c =
     let a = c.args in
-    elim c.else-kind-eq3.branch
-    [ else-kind-eq3-via-then-kind-eq3+else-lefts-l w ↦
-      simp (le-ltb _ _ c.if-kind-lt2.false, not-false (eqb a.lefts a.l) w.if-lefts-l.false-raw, or-true)
-    | else-kind-eq3-via-else-kind-eq3 w ↦ simp (le-ltb _ _ c.if-kind-lt2.false, ne_eqb _ _ w.if-kind-eq3.false)
+    elim c.else-kind-eq3.branch [
+      | else-kind-eq3-via-then-kind-eq3+else-lefts-l w ↦
+          simp (le-ltb _ _ c.if-kind-lt2.false, not-false (eqb a.lefts a.l) w.if-lefts-l.false-raw, or-true)
+      | else-kind-eq3-via-else-kind-eq3 w ↦ simp (le-ltb _ _ c.if-kind-lt2.false, ne_eqb _ _ w.if-kind-eq3.false)
     ]

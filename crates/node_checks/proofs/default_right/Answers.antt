@@ -1,7 +1,6 @@
 -- `node_checks::default_right` computes the definition by its tests.
 use borrow.Author.Tests.{eq-eqb, ne_eqb}
 use Rattle.node_checks.specs.Weights.{default_at}
-use borrow.Author.Rules.{rules}
 use Rattle.node_checks.proofs.default_right.Goals as goal
 
 pub returns-then-s-at-eq1 : goal.returns-then-s-at-eq1

@@ -1,11 +1,7 @@
 -- `node_checks::defaults_right` asks of each default whether it is right for its kind: what is left to ask is what the definition asks.
-use mathlib.Core.Path.{◌≡◌, sym, ap, ◌∙◌}
+use mathlib.Core.Path.{◌≡◌}
 use Prim.Native.Nat.{◌+◌, ◌*◌, ◌-◌, ◌≤◌}
-use native.Mathlib.Omega.{arith}
-use lib.ListN.{get_or}
-use borrow.Author.Tests.{not-true, not-false}
-use Rattle.node_checks.specs.Weights.{default_at, defaults_at}
-use Rattle.node_checks.specs.Steps.{defaults-none, defaults_fails, defaults-passes}
+use Rattle.node_checks.specs.Weights.{defaults_at}
 use Rattle.node_checks.proofs.defaults_right.Given as goal
 
 abbrev pub invariant-loop-i : goal.invariant-loop-i

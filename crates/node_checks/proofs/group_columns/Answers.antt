@@ -1,10 +1,7 @@
 -- `node_checks::group_columns` asks of the grouping columns whether they are there and all different, and then of the columns that aggregates read.
 use mathlib.Core.Path.{sym, ◌∙◌}
 use mathlib.Core.Bool.{and-false}
-use Prim.Native.Nat.{◌+◌}
 use native.Mathlib.Omega.{arith}
-use borrow.Author.Rules.{rules}
-use borrow.Author.Tests.{not-true, not-false}
 use Rattle.node_bytes.specs.Nodes.{group_size}
 use Rattle.node_checks.specs.Numbers.{group_columns_at}
 use Rattle.node_checks.proofs.group_columns.Goals as goal

@@ -1,9 +1,6 @@
 -- `node_checks::join_columns` asks of the pairs, and then of the counts of defaults.
 use mathlib.Core.Path.{sym, ◌∙◌}
-use Prim.Native.Nat.{◌+◌}
 use native.Mathlib.Omega.{arith}
-use borrow.Author.Rules.{rules}
-use borrow.Author.Tests.{not-true, not-false}
 use Rattle.node_bytes.specs.Nodes.{join_size}
 use Rattle.node_checks.specs.Numbers.{join_columns_at}
 use Rattle.node_checks.proofs.join_columns.Goals as goal

@@ -1,9 +1,6 @@
 -- `node_checks::join_within` asks `up_to` of the columns, and then of the pairs.
 use mathlib.Core.Path.{sym, ◌∙◌}
-use Prim.Native.Nat.{◌+◌}
 use native.Mathlib.Omega.{arith}
-use borrow.Author.Rules.{rules}
-use borrow.Author.Tests.{not-true, not-false}
 use Rattle.meaning.specs.Limits.{most_columns, most_pairs}
 use Rattle.node_bytes.specs.Nodes.{join_size}
 use Rattle.node_checks.specs.Numbers.{join_within_at}

@@ -1,9 +1,6 @@
 -- `node_checks::pairs_there` tests both columns of each pair: a walk over pairs of two bytes.
-use Prim.Native.Nat.{◌+◌}
-use native.Mathlib.Omega.{arith}
-use Rattle.node_bytes.specs.Rows.{Walk, walk_starts, walk_passes, walk_fails, walk_ends}
-use borrow.Author.Tests.{le-ltb, lt-ltb}
-use Rattle.node_checks.specs.Columns.{pair_at, pairs_at}
+use Rattle.node_bytes.specs.Rows.{Walk}
+use Rattle.node_checks.specs.Columns.{pair_at}
 use Rattle.node_checks.proofs.pairs_there.Given as goal
 
 abbrev pub invariant-loop-left : goal.invariant-loop-left

@@ -1,9 +1,6 @@
 -- `node_checks::read_there` tests as many columns as the aggregate reads.
-use native.Mathlib.Omega.{arith}
-use Prim.Native.Nat.{◌+◌}
 use borrow.Author.Tests.{lt-ltb, le-ltb, ne_eqb}
 use Rattle.node_checks.specs.Columns.{read_at}
-use borrow.Author.Rules.{rules}
 use Rattle.node_checks.proofs.read_there.Goals as goal
 
 pub returns-then-columns-eq0 : goal.returns-then-columns-eq0

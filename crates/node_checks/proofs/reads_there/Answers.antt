@@ -1,9 +1,8 @@
 -- `node_checks::reads_there` tests what each aggregate reads: a walk over aggregates of three bytes.
 use mathlib.Core.Path.{sym, ◌∙◌}
 use native.Mathlib.Omega.{arith}
-use borrow.Author.Tests.{not-true, not-false}
-use Rattle.node_bytes.specs.Rows.{Walk, walk_starts, walk_passes, walk_fails, walk_ends}
-use Rattle.node_checks.specs.Columns.{read_at, reads_at}
+use Rattle.node_bytes.specs.Rows.{walk_starts, walk_passes, walk_fails, walk_ends}
+use Rattle.node_checks.specs.Columns.{reads_at}
 use Rattle.node_checks.proofs.reads_there.Goals as goal
 
 pub loop-left-init : goal.loop-left-init

@@ -1,9 +1,7 @@
 -- `node_checks::weight_right` computes the definition by its tests.
 use native.Mathlib.Omega.{arith}
-use Prim.Native.Nat.{◌+◌}
 use borrow.Author.Tests.{lt-ltb, le-ltb, eq-eqb, ne_eqb}
 use Rattle.node_checks.specs.Weights.{weight_at}
-use borrow.Author.Rules.{rules}
 use Rattle.node_checks.proofs.weight_right.Goals as goal
 
 pub returns-then-columns-lt2 : goal.returns-then-columns-lt2

@@ -1,9 +1,7 @@
 -- `regions::clear_cells` clears from the front on, up to the n-th.
-use mathlib.Core.Path.{◌≡◌}
 use Prim.Native.Nat.{◌-◌, ◌≤◌}
-use native.Mathlib.Omega.{arith}
 use lib.IntN.{pos}
-use Rattle.regions.specs.Clearing.{Cleared, cleared-none, cleared_more}
+use Rattle.regions.specs.Clearing.{Cleared}
 use Rattle.regions.proofs.clear_cells.Given as goal
 
 abbrev pub invariant-loop-i : goal.invariant-loop-i

@@ -1,8 +1,6 @@
 -- `regions::clear_marks` clears from the front on, up to the n-th.
-use mathlib.Core.Path.{◌≡◌}
 use Prim.Native.Nat.{◌-◌, ◌≤◌}
-use native.Mathlib.Omega.{arith}
-use Rattle.regions.specs.Clearing.{Cleared, cleared-none, cleared_more}
+use Rattle.regions.specs.Clearing.{Cleared}
 use Rattle.regions.proofs.clear_marks.Given as goal
 
 abbrev pub invariant-loop-i : goal.invariant-loop-i

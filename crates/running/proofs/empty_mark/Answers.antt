@@ -1,6 +1,5 @@
 -- `running::empty_mark` is what the rule table says.
 use borrow.Author.Tests.{eq-eqb, ne_eqb}
-use borrow.Author.Rules.{rules}
 use Rattle.running.specs.States.{empty_mark_of}
 use Rattle.running.proofs.empty_mark.Goals as goal
 

@@ -1,5 +1,4 @@
 -- `running::repeats` compares v with the last one, where there is one, in a distinct aggregate alone.
-use borrow.Author.Rules.{rules}
 use borrow.Author.Tests.{not-true, not-false}
 use mathlib.Core.Path.{ap}
 use mir.Syntax.{w64}

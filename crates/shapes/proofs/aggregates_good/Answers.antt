@@ -1,9 +1,7 @@
 -- `shapes::aggregates_good` tests each aggregate: a walk over things of three bytes.
 use mathlib.Core.Path.{sym, ◌∙◌}
-use native.Mathlib.Omega.{arith}
-use borrow.Author.Tests.{not-true, not-false}
-use Rattle.node_bytes.specs.Nodes.{aggregate_good, aggregates_good}
-use Rattle.node_bytes.specs.Rows.{Walk, walk_starts, walk_passes, walk_fails, walk_ends}
+use Rattle.node_bytes.specs.Nodes.{aggregates_good}
+use Rattle.node_bytes.specs.Rows.{walk_starts, walk_passes, walk_fails, walk_ends}
 use Rattle.shapes.proofs.aggregates_good.Goals as goal
 
 pub loop-left-init : goal.loop-left-init

@@ -1,9 +1,6 @@
 -- `shapes::aggregates_good` tests each aggregate: a walk over things of three bytes.
-use mathlib.Core.Path.{sym, ◌∙◌}
-use native.Mathlib.Omega.{arith}
-use borrow.Author.Tests.{not-true, not-false}
-use Rattle.node_bytes.specs.Nodes.{aggregate_good, aggregates_good}
-use Rattle.node_bytes.specs.Rows.{Walk, walk_starts, walk_passes, walk_fails, walk_ends}
+use Rattle.node_bytes.specs.Nodes.{aggregate_good}
+use Rattle.node_bytes.specs.Rows.{Walk}
 use Rattle.shapes.proofs.aggregates_good.Given as goal
 
 abbrev pub invariant-loop-left : goal.invariant-loop-left

@@ -1,5 +1,4 @@
 -- `shapes::cell_good` tests a default as the definition does: the mark first, then the number of a null.
-use borrow.Author.Rules.{rules}
 use borrow.Author.Tests.{eq-eqb, ne_eqb}
 use Rattle.node_bytes.specs.Nodes.{cell_good}
 use Rattle.shapes.proofs.cell_good.Goals as goal

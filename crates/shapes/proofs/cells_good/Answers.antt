@@ -1,9 +1,7 @@
 -- `shapes::cells_good` tests each default: a walk over things of nine bytes.
 use mathlib.Core.Path.{sym, ◌∙◌}
-use native.Mathlib.Omega.{arith}
-use borrow.Author.Tests.{not-true, not-false}
-use Rattle.node_bytes.specs.Nodes.{cell_good, cells_good}
-use Rattle.node_bytes.specs.Rows.{Walk, walk_starts, walk_passes, walk_fails, walk_ends}
+use Rattle.node_bytes.specs.Nodes.{cells_good}
+use Rattle.node_bytes.specs.Rows.{walk_starts, walk_passes, walk_fails, walk_ends}
 use Rattle.shapes.proofs.cells_good.Goals as goal
 
 pub loop-left-init : goal.loop-left-init

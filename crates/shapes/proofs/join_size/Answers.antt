@@ -1,9 +1,8 @@
 -- `shapes::join_size` measures a join: too little room or defaults of a side that has none give 0, else the defaults decide.
 use mathlib.Core.Path.{sym, ◌∙◌}
 use mathlib.Core.Logic.{inl, inr}
-use Prim.Native.Nat.{ℕ, ◌+◌}
+use Prim.Native.Nat.{ℕ}
 use native.Mathlib.Omega.{arith}
-use borrow.Author.Rules.{rules}
 use Rattle.node_bytes.specs.Nodes.{join_size}
 use Rattle.shapes.specs.Sizes.{lefts_wrong, rights_wrong, defaults_decide, size-outside, size_wrong, size-right}
 use Rattle.shapes.proofs.join_size.Goals as goal
@@ -32,13 +31,13 @@ unfolding join_size
 returns-then-cells_good c =
     size-right _ _ _ (omega arith)
     (defaults_decide _ _
-    (elim c.else-kind-ne3.branch
-    [ else-kind-ne3-via-then-kind-ne3+else-lefts-ne0 w ↦ inl w.if-lefts-ne0.false-raw
-    | else-kind-ne3-via-else-kind-ne3 w ↦ inr w.if-kind-ne3.false
+    (elim c.else-kind-ne3.branch [
+      | else-kind-ne3-via-then-kind-ne3+else-lefts-ne0 w ↦ inl w.if-lefts-ne0.false-raw
+      | else-kind-ne3-via-else-kind-ne3 w ↦ inr w.if-kind-ne3.false
     ])
-    (elim c.else-kind-lt2.branch
-    [ else-kind-lt2-via-then-kind-lt2+else-rights-ne0 w ↦ inl w.if-rights-ne0.false-raw
-    | else-kind-lt2-via-else-kind-lt2 w ↦ inr w.if-kind-lt2.false
+    (elim c.else-kind-lt2.branch [
+      | else-kind-lt2-via-then-kind-lt2+else-rights-ne0 w ↦ inl w.if-rights-ne0.false-raw
+      | else-kind-lt2-via-else-kind-lt2 w ↦ inr w.if-kind-lt2.false
     ])
     ∙ sym c.cells_good.ensures
     ∙ c.if-cells_good.true)
@@ -47,13 +46,13 @@ pub returns-else-cells_good : goal.returns-else-cells_good
 returns-else-cells_good c =
     size_wrong _ _ _
     (defaults_decide _ _
-    (elim c.else-kind-ne3.branch
-    [ else-kind-ne3-via-then-kind-ne3+else-lefts-ne0 w ↦ inl w.if-lefts-ne0.false-raw
-    | else-kind-ne3-via-else-kind-ne3 w ↦ inr w.if-kind-ne3.false
+    (elim c.else-kind-ne3.branch [
+      | else-kind-ne3-via-then-kind-ne3+else-lefts-ne0 w ↦ inl w.if-lefts-ne0.false-raw
+      | else-kind-ne3-via-else-kind-ne3 w ↦ inr w.if-kind-ne3.false
     ])
-    (elim c.else-kind-lt2.branch
-    [ else-kind-lt2-via-then-kind-lt2+else-rights-ne0 w ↦ inl w.if-rights-ne0.false-raw
-    | else-kind-lt2-via-else-kind-lt2 w ↦ inr w.if-kind-lt2.false
+    (elim c.else-kind-lt2.branch [
+      | else-kind-lt2-via-then-kind-lt2+else-rights-ne0 w ↦ inl w.if-rights-ne0.false-raw
+      | else-kind-lt2-via-else-kind-lt2 w ↦ inr w.if-kind-lt2.false
     ])
     ∙ sym c.cells_good.ensures
     ∙ c.if-cells_good.false)

@@ -1,7 +1,6 @@
 -- `shapes::node_size` measures a node as the definition does: its first byte says which kind of node it is.
 use mathlib.Core.Path.{refl}
 use native.Mathlib.Omega.{arith}
-use borrow.Author.Rules.{rules}
 use borrow.Author.Tests.{le-leb, lt-leb, eq-eqb, ne_eqb}
 use Rattle.node_bytes.specs.Nodes.{node_size}
 use Rattle.shapes.specs.Sizes.{size-outside, size-right}

@@ -6,7 +6,7 @@ use lib.ListN.{length}
 use borrow.Author.Tests.{eq-eqb, ne_eqb}
 use Rattle.shapes.specs.Shapes.{ended}
 use Rattle.shapes.specs.Sizes.{node-fits}
-use Rattle.shapes.specs.Scanning.{Scanned, scanned_starts, scanned_bad, scanned_few, scanned_step, scanned_ends, table_counts, other-counts}
+use Rattle.shapes.specs.Scanning.{scanned_starts, scanned_bad, scanned_few, scanned_step, scanned_ends, table_counts, other-counts}
 use Rattle.shapes.proofs.shape_of.Goals as goal
 use Rattle.shapes.proofs.shape_of.Goals.{Joined-tag-eq0, then-tag-eq0, else-tag-eq0}
 
@@ -50,9 +50,9 @@ loop-at-preserved c =
     scanned_step c.loop-at.invariant
     c.node_size-size.ensures
     c.takes-taken.ensures
-    (elim c.if-tag-eq0.branch
-    [ then-tag-eq0 w ↦ table_counts _ _ _ w.if-tag-eq0.true w.leaves-is
-    | else-tag-eq0 w ↦ other-counts _ _ _ w.if-tag-eq0.false w.leaves-is
+    (elim c.if-tag-eq0.branch [
+      | then-tag-eq0 w ↦ table_counts _ _ _ w.if-tag-eq0.true w.leaves-is
+      | else-tag-eq0 w ↦ other-counts _ _ _ w.if-tag-eq0.false w.leaves-is
     ])
     c.loop-at-test.true
     c.if-size-eq0.false

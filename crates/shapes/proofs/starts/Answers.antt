@@ -1,9 +1,9 @@
 -- `shapes::starts` notes where each node starts: the loop's place is the start of the node before the k-th, and moves on by its size.
 use mathlib.Core.Path.{refl, ap, ◌∙◌}
-use Prim.Native.Nat.{ℕ, ◌+◌, ◌-◌}
+use Prim.Native.Nat.{ℕ, ◌+◌}
 use native.Mathlib.Omega.{arith}
 use Rattle.shapes.specs.Sizes.{node-fits}
-use Rattle.shapes.specs.Scanning.{Started, started_starts, started_step, stays}
+use Rattle.shapes.specs.Scanning.{started_starts, started_step, stays}
 use Rattle.shapes.proofs.starts.Goals as goal
 use Rattle.shapes.proofs.starts.Goals.{then-at-s, else-at-s}
 
@@ -18,9 +18,9 @@ overflow_add-at c =
 pub loop-k-preserved : goal.loop-k-preserved
 loop-k-preserved c =
     started_step c.loop-k.invariant
-    (elim c.if-at-s.branch
-    [ then-at-s w ↦ w.at-is ∙ ap (λ (n : ℕ). c.loop-k.at + n) w.node_size-at.ensures
-    | else-at-s w ↦ w.at-is ∙ stays _ _ w.if-at-s.false
+    (elim c.if-at-s.branch [
+      | then-at-s w ↦ w.at-is ∙ ap (λ (n : ℕ). c.loop-k.at + n) w.node_size-at.ensures
+      | else-at-s w ↦ w.at-is ∙ stays _ _ w.if-at-s.false
     ])
     c.loop-k-test.true
 

@@ -5,9 +5,8 @@ use lib.ListN.{get_or}
 use lib.IntN.{ℤ, pos}
 use mir.Syntax.{w64}
 use mir.Facts.{to_z-of_z}
-use borrow.Author.Tests.{not-true, not-false}
 use Rattle.meaning.specs.Running.{cell_right}
-use Rattle.node_bytes.specs.Rows.{Walk, walk_starts, walk_passes, walk_fails, walk_ends}
+use Rattle.node_bytes.specs.Rows.{walk_starts, walk_passes, walk_fails, walk_ends}
 use Rattle.tables.specs.Places.{cell_right_at, cells-every}
 use Rattle.tables.proofs.cells_right.Goals as goal
 use Rattle.tables.proofs.cells_right.Goals.{After-cell_right}

@@ -1,14 +1,6 @@
 -- `tables::cells_right` tests each cell: a walk over cells.
-use mathlib.Core.Path.{◌≡◌, sym, ap, ◌∙◌}
-use native.Mathlib.Omega.{arith}
-use lib.ListN.{get_or}
-use lib.IntN.{ℤ, pos}
-use mir.Syntax.{w64}
-use mir.Facts.{to_z-of_z}
-use borrow.Author.Tests.{not-true, not-false}
-use Rattle.meaning.specs.Running.{cell_right}
-use Rattle.node_bytes.specs.Rows.{Walk, walk_starts, walk_passes, walk_fails, walk_ends}
-use Rattle.tables.specs.Places.{cell_right_at, cells-every}
+use Rattle.node_bytes.specs.Rows.{Walk}
+use Rattle.tables.specs.Places.{cell_right_at}
 use Rattle.tables.proofs.cells_right.Given as goal
 
 abbrev pub invariant-loop-left : goal.invariant-loop-left
