@@ -14,6 +14,7 @@ pub struct Shape {
 }
 
 // Whether the nine bytes from a place on are a default's.
+#[tactic(auto, unfolding(node_bytes::specs::Nodes::cell_good))]
 fn cell_good(s: &[u8], at: usize) -> bool
     requires { at + 9 ≤ length s.now }
     ensures { result ≡ cell_good s.now at }
@@ -46,6 +47,7 @@ fn cells_good(s: &[u8], from: usize, n: usize) -> bool
 }
 
 // Whether the three bytes from a place on are an aggregate's.
+#[tactic(auto, unfolding(node_bytes::specs::Nodes::aggregate_good))]
 fn aggregate_good(s: &[u8], at: usize) -> bool
     requires { at + 3 ≤ length s.now }
     ensures { result ≡ aggregate_good s.now at }

@@ -25,14 +25,6 @@ table =
 right : ℕ → ℕ → Bool
 right name column = eqb (get_or (get_or table name []) column 0) (entry_of name column)
 
-pub returns-then-name-ge9 : goal.returns-then-name-ge9
-unfolding entry_of
-returns-then-name-ge9 c = simp (le-leb _ _ c.if-name-ge9.true)
-
-pub returns-then-column-ge6 : goal.returns-then-column-ge6
-unfolding entry_of
-returns-then-column-ge6 c = simp (lt-leb _ _ c.if-name-ge9.false, le-leb _ _ c.if-column-ge6.true)
-
 pub returns : goal.returns
 unfolding table right entry_of line_of name_at names is_null is_always number_or9 rule name_number
 returns c =
