@@ -20,6 +20,7 @@ pub struct Node {
 }
 
 // Of two numbers the one that comes first, 0 being none.
+#[tactic(auto, unfolding(crate::specs::Verdicts::lesser))]
 fn lesser_of(a: u32, b: u32) -> u32
     ensures { result ≡ lesser a b }
 {
@@ -36,6 +37,7 @@ fn lesser_of(a: u32, b: u32) -> u32
 }
 
 // The number of a node whose inputs have the number so far, by its own tests of 2, 3 and 4.
+#[tactic(auto, unfolding(crate::specs::Verdicts::verdict))]
 fn verdict_of(sofar: u32, within: bool, columns: bool, weights: bool) -> u32
     ensures { result ≡ verdict sofar within columns weights }
 {

@@ -81,6 +81,7 @@ fn feed(
 }
 
 // Whether an aggregate wants its values ascending: a distinct one, over more than one row.
+#[tactic(auto, unfolding(crate::specs::Single::needs_order))]
 fn needs_order(name: u8, rows: usize) -> bool
     ensures { result ≡ needs_order name rows }
 {

@@ -6,6 +6,7 @@ ghost use Rattle.meaning.specs.Running.{cell_right, cells_right};
 ghost use Rattle.tables.specs.Places.{inside_at, table_right};
 
 // Whether a cell and its mark are a table's: present and in range, or null with number 0.
+#[tactic(auto, using(crate::proofs::Tests::cell_tests))]
 fn cell_right(cell: i64, mark: u8) -> bool
     ensures { result ≡ cell_right cell mark }
 {
@@ -55,6 +56,7 @@ fn inside(start: usize, n: usize, cells: usize, marks: usize) -> bool
 }
 
 // Whether the table of a number is there, has this width and is right: `tables` has three numbers a table, width, rows and start.
+#[tactic(auto, using(crate::proofs::Tests::table_tests))]
 pub fn table_right(tables: &[usize], cells: &[i64], marks: &[u8], name: usize, width: usize) -> bool
     requires { width < 256 }
     ensures { result ≡ table_right tables.now cells.now marks.now name width }
