@@ -4,6 +4,7 @@ ghost use Rattle.std.specs.Prelude.{◌<◌, ◌≤◌};
 use crate::cells::Cells;
 use crate::lines::{say_outcome, say_result, say_rows, say_work};
 use crate::plans::Plan;
+use std::io;
 
 // What stands in the work area and the result area before a run. No run writes such a mark.
 pub(crate) const FILL: i64 = 9;
@@ -130,31 +131,35 @@ impl Case {
         self
     }
 
-    pub(crate) fn run(self, label: &[u8]) {
+    pub(crate) fn run(self, rt: &impl Print, label: &str) -> io::Result<()> {
         let plan = self.plan;
         let tables = self.tables;
         let cells = self.cells;
         let marks = self.marks;
         let counts = self.counts;
-        lend_lists(label, &plan, &tables, &cells, &marks, counts, self.width);
+        lend_lists(
+            rt, label, &plan, &tables, &cells, &marks, counts, self.width,
+        )
     }
 }
 
 // Lends the front of each list.
 fn lend_lists(
-    label: &[u8],
+    rt: &impl Print,
+    label: &str,
     plan: &[u8],
     tables: &[usize],
     cells: &[i64],
     marks: &[u8],
     counts: [usize; 9],
     width: usize,
-) {
+) -> io::Result<()> {
     let plan_length = at_most(counts[PLAN], plan.len());
     let tables_length = at_most(counts[TABLES], tables.len());
     let cells_length = at_most(counts[CELLS], cells.len());
     let marks_length = at_most(counts[MARKS], marks.len());
     lend_areas(
+        rt,
         label,
         &plan[0..plan_length],
         &tables[0..tables_length],
@@ -162,19 +167,20 @@ fn lend_lists(
         &marks[0..marks_length],
         counts,
         width,
-    );
+    )
 }
 
 // Lends the front of each area, as it is filled.
 fn lend_areas(
-    label: &[u8],
+    rt: &impl Print,
+    label: &str,
     plan: &[u8],
     tables: &[usize],
     cells: &[i64],
     marks: &[u8],
     counts: [usize; 9],
     width: usize,
-) {
+) -> io::Result<()> {
     let mut work = [FILL; MOST_WORK];
     let mut work_marks = [FILL_MARK; MOST_WORK];
     let mut result = [FILL; MOST_RESULT];
@@ -184,6 +190,7 @@ fn lend_areas(
     let result_length = at_most(counts[RESULT], MOST_RESULT);
     let result_marks_length = at_most(counts[RESULT_MARKS], MOST_RESULT);
     run_and_say(
+        rt,
         label,
         plan,
         tables,
@@ -195,12 +202,13 @@ fn lend_areas(
         &mut result[0..result_length],
         &mut result_marks[0..result_marks_length],
         width,
-    );
+    )
 }
 
 // Runs a plan, and says what came back and what the areas hold then.
 fn run_and_say(
-    label: &[u8],
+    rt: &impl Print,
+    label: &str,
     plan: &[u8],
     tables: &[usize],
     cells: &[i64],
@@ -211,7 +219,7 @@ fn run_and_say(
     res: &mut [i64],
     result_marks: &mut [u8],
     width: usize,
-) {
+) -> io::Result<()> {
     let ran = runs::run(
         plan,
         tables,
@@ -223,8 +231,8 @@ fn run_and_say(
         res,
         result_marks,
     );
-    say_outcome(label, ran.number, ran.rows);
-    say_work(work, work_marks);
-    say_result(res, result_marks, ran.rows, width);
-    say_rows(res, result_marks, ran.rows, width);
+    say_outcome(rt, label, ran.number, ran.rows)?;
+    say_work(rt, work, work_marks)?;
+    say_result(rt, res, result_marks, ran.rows, width)?;
+    say_rows(rt, res, result_marks, ran.rows, width)
 }

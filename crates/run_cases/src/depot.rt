@@ -4,6 +4,7 @@ use crate::cases::{
 };
 use crate::cells::Cells;
 use crate::plans::{COUNT, FULL_OUTER, Plan, ROWS, SUM};
+use std::io;
 
 // Places in plan A.
 const USES_NODE: usize = 0;
@@ -91,192 +92,214 @@ fn depot() -> Case {
         .lend(MARKS, 24)
 }
 
-pub(crate) fn worked_cases() {
-    depot().run(b"plan A with L 7");
-    depot().lend(LIMIT, 6).run(b"plan A with L 6");
-    depot().lend(LIMIT, 0).run(b"plan A with L 0");
-    depot().table(USES, 0).run(b"plan A over no uses");
-    depot().table(RELEASES, 0).run(b"plan A over no releases");
+pub(crate) fn worked_cases(rt: &impl Print) -> io::Result<()> {
+    depot().run(rt, "plan A with L 7")?;
+    depot().lend(LIMIT, 6).run(rt, "plan A with L 6")?;
+    depot().lend(LIMIT, 0).run(rt, "plan A with L 0")?;
+    depot().table(USES, 0).run(rt, "plan A over no uses")?;
+    depot()
+        .table(RELEASES, 0)
+        .run(rt, "plan A over no releases")?;
     depot()
         .table(USES, 0)
         .table(RELEASES, 0)
-        .run(b"plan A over two empty tables");
+        .run(rt, "plan A over two empty tables")?;
+    Ok(())
 }
 
-pub(crate) fn cell_cases() {
-    depot().cell(AGE, 2147483647, 0).run(b"cell 2,147,483,647");
-    depot().cell(AGE, 2147483648, 0).run(b"cell 2,147,483,648");
+pub(crate) fn cell_cases(rt: &impl Print) -> io::Result<()> {
+    depot()
+        .cell(AGE, 2147483647, 0)
+        .run(rt, "cell 2,147,483,647")?;
+    depot()
+        .cell(AGE, 2147483648, 0)
+        .run(rt, "cell 2,147,483,648")?;
     depot()
         .cell(AGE, -2147483647, 0)
-        .run(b"cell -2,147,483,647");
+        .run(rt, "cell -2,147,483,647")?;
     depot()
         .cell(AGE, -2147483648, 0)
-        .run(b"cell -2,147,483,648");
+        .run(rt, "cell -2,147,483,648")?;
     depot()
         .cell(AGE, i64::MAX, 0)
-        .run(b"cell 9,223,372,036,854,775,807");
+        .run(rt, "cell 9,223,372,036,854,775,807")?;
     depot()
         .cell(AGE, i64::MIN, 0)
-        .run(b"cell -9,223,372,036,854,775,808");
-    depot().cell(AGE, 0, 0).run(b"cell 0");
-    depot().cell(AGE, 1, 1).run(b"cell 1 marked null");
-    depot().cell(AGE, 0, 2).run(b"cell 0 with mark 2");
+        .run(rt, "cell -9,223,372,036,854,775,808")?;
+    depot().cell(AGE, 0, 0).run(rt, "cell 0")?;
+    depot().cell(AGE, 1, 1).run(rt, "cell 1 marked null")?;
+    depot().cell(AGE, 0, 2).run(rt, "cell 0 with mark 2")?;
     depot()
         .cell(FIRST_CELL, 2147483648, 0)
-        .run(b"first cell 2,147,483,648");
+        .run(rt, "first cell 2,147,483,648")?;
     depot()
         .cell(LAST_CELL, 2147483648, 0)
-        .run(b"last cell 2,147,483,648");
+        .run(rt, "last cell 2,147,483,648")?;
+    Ok(())
 }
 
-pub(crate) fn table_cases() {
+pub(crate) fn table_cases(rt: &impl Print) -> io::Result<()> {
     depot()
         .lend(TABLES, 3)
-        .run(b"the releases' table not there");
+        .run(rt, "the releases' table not there")?;
     depot()
         .lend(TABLES, 5)
-        .run(b"the releases' table without its start");
+        .run(rt, "the releases' table without its start")?;
     depot()
         .lend(TABLES, 9)
-        .run(b"a wrong table that no leaf names");
+        .run(rt, "a wrong table that no leaf names")?;
     depot()
         .table(RELEASES_WIDTH, 2)
-        .run(b"releases of 2 columns where the leaf says 3");
+        .run(rt, "releases of 2 columns where the leaf says 3")?;
     depot()
         .table(RELEASES, usize::MAX)
-        .run(b"18,446,744,073,709,551,615 releases");
+        .run(rt, "18,446,744,073,709,551,615 releases")?;
     depot()
         .table(RELEASES_START, 9)
-        .run(b"releases that overlap the last use");
+        .run(rt, "releases that overlap the last use")?;
     depot()
         .table(RELEASES_START, 13)
-        .run(b"releases from cell 13, of 24");
+        .run(rt, "releases from cell 13, of 24")?;
     depot()
         .table(RELEASES_START, usize::MAX)
-        .run(b"releases from cell 18,446,744,073,709,551,615");
+        .run(rt, "releases from cell 18,446,744,073,709,551,615")?;
     depot()
         .table(RELEASES_START, usize::MAX)
         .table(RELEASES, 0)
-        .run(b"no releases, from cell 18,446,744,073,709,551,615");
+        .run(rt, "no releases, from cell 18,446,744,073,709,551,615")?;
+    Ok(())
 }
 
-pub(crate) fn lent_run_cases() {
+pub(crate) fn lent_run_cases(rt: &impl Print) -> io::Result<()> {
     depot()
         .lend(CELLS, 23)
-        .run(b"a lent run of 23 cells, of 24");
+        .run(rt, "a lent run of 23 cells, of 24")?;
     depot()
         .lend(MARKS, 23)
-        .run(b"a lent run of 23 marks, of 24");
+        .run(rt, "a lent run of 23 marks, of 24")?;
     depot()
         .lend(CELLS, 25)
-        .run(b"a lent run of 25 cells and 24 marks");
+        .run(rt, "a lent run of 25 cells and 24 marks")?;
     depot()
         .lend(CELLS, 25)
         .lend(MARKS, 25)
-        .run(b"a wrong cell behind the tables");
+        .run(rt, "a wrong cell behind the tables")?;
+    Ok(())
 }
 
-pub(crate) fn room_cases() {
-    depot().lend(WORK, 447).run(b"447 cells to work in, of 448");
+pub(crate) fn room_cases(rt: &impl Print) -> io::Result<()> {
+    depot()
+        .lend(WORK, 447)
+        .run(rt, "447 cells to work in, of 448")?;
     depot()
         .lend(WORK_MARKS, 447)
-        .run(b"447 marks to work in, of 448");
+        .run(rt, "447 marks to work in, of 448")?;
     depot()
         .lend(WORK, 0)
         .lend(WORK_MARKS, 0)
-        .run(b"nothing to work in");
+        .run(rt, "nothing to work in")?;
     depot()
         .lend(RESULT, 41)
-        .run(b"41 cells for the result, of 42");
+        .run(rt, "41 cells for the result, of 42")?;
     depot()
         .lend(RESULT_MARKS, 41)
-        .run(b"41 marks for the result, of 42");
+        .run(rt, "41 marks for the result, of 42")?;
     depot()
         .lend(WORK, 500)
         .lend(WORK_MARKS, 600)
-        .run(b"more to work in than needed, with L 7");
+        .run(rt, "more to work in than needed, with L 7")?;
     depot()
         .lend(WORK, 500)
         .lend(WORK_MARKS, 600)
         .lend(LIMIT, 6)
-        .run(b"more to work in than needed, with L 6");
+        .run(rt, "more to work in than needed, with L 6")?;
     depot()
         .lend(RESULT, 50)
         .lend(RESULT_MARKS, 60)
-        .run(b"more for the result than needed");
+        .run(rt, "more for the result than needed")?;
+    Ok(())
 }
 
 fn nothing() -> Case {
     Case::new(Plan::new(), one_column(0), Cells::new(), 0, 0, 0).lend(TABLES, 0)
 }
 
-pub(crate) fn byte_cases() {
-    nothing().run(b"nothing lent at all");
-    depot().lend(PLAN, 0).run(b"a plan of no bytes");
-    depot().lend(PLAN, 82).run(b"plan A without its last byte");
-    depot().lend(PLAN, 84).run(b"plan A with a byte more");
+pub(crate) fn byte_cases(rt: &impl Print) -> io::Result<()> {
+    nothing().run(rt, "nothing lent at all")?;
+    depot().lend(PLAN, 0).run(rt, "a plan of no bytes")?;
+    depot()
+        .lend(PLAN, 82)
+        .run(rt, "plan A without its last byte")?;
+    depot().lend(PLAN, 84).run(rt, "plan A with a byte more")?;
     depot()
         .lend(PLAN, 6)
-        .run(b"two tables and nothing above them");
-    depot().byte(USES_NODE, 5).run(b"an unknown node");
+        .run(rt, "two tables and nothing above them")?;
+    depot().byte(USES_NODE, 5).run(rt, "an unknown node")?;
     depot()
         .byte(FIRST_AGGREGATE, 9)
-        .run(b"an unknown aggregate");
-    depot().byte(DEPOT_DEFAULT, 2).run(b"a default with mark 2");
+        .run(rt, "an unknown aggregate")?;
+    depot()
+        .byte(DEPOT_DEFAULT, 2)
+        .run(rt, "a default with mark 2")?;
     depot()
         .byte(DEPOT_DEFAULT + 1, 2)
-        .run(b"a default 1 marked null");
+        .run(rt, "a default 1 marked null")?;
+    Ok(())
 }
 
-pub(crate) fn plan_cases() {
+pub(crate) fn plan_cases(rt: &impl Print) -> io::Result<()> {
     depot()
         .byte(RELEASES_COLUMNS, 0)
-        .run(b"a leaf of no columns");
+        .run(rt, "a leaf of no columns")?;
     depot()
         .byte(RELEASES_COLUMNS, 17)
-        .run(b"a leaf of 17 columns");
+        .run(rt, "a leaf of 17 columns")?;
     depot()
         .byte(PAIR_USE, 3)
-        .run(b"a pair of the uses' column 3, of 3");
+        .run(rt, "a pair of the uses' column 3, of 3")?;
     depot()
         .byte(PAIR_RELEASE, 3)
-        .run(b"a pair of the releases' column 3, of 3");
+        .run(rt, "a pair of the releases' column 3, of 3")?;
     depot()
         .byte(SECOND_GROUPED, 6)
-        .run(b"grouped by column 6, of 6");
+        .run(rt, "grouped by column 6, of 6")?;
     depot()
         .byte(SECOND_GROUPED, 0)
-        .run(b"grouped by column 0 twice");
+        .run(rt, "grouped by column 0 twice")?;
     depot()
         .byte(LIMIT_SUM, 7)
-        .run(b"a sum weighted by a plain column");
+        .run(rt, "a sum weighted by a plain column")?;
+    Ok(())
 }
 
-pub(crate) fn order_cases() {
+pub(crate) fn order_cases(rt: &impl Print) -> io::Result<()> {
     depot()
         .byte(USES_NODE, 5)
         .byte(RELEASES_COLUMNS, 17)
-        .run(b"an unknown node, and a leaf of 17 columns");
-    depot()
-        .byte(RELEASES_COLUMNS, 17)
-        .byte(PAIR_USE, 3)
-        .run(b"a leaf of 17 columns, and a pair of the uses' column 3");
+        .run(rt, "an unknown node, and a leaf of 17 columns")?;
+    depot().byte(RELEASES_COLUMNS, 17).byte(PAIR_USE, 3).run(
+        rt,
+        "a leaf of 17 columns, and a pair of the uses' column 3",
+    )?;
     depot().byte(PAIR_USE, 3).byte(LIMIT_SUM, 7).run(
-        b"a pair of the uses' column 3, and a sum weighted by a plain column",
-    );
+        rt,
+        "a pair of the uses' column 3, and a sum weighted by a plain column",
+    )?;
     depot().byte(LIMIT_SUM, 7).cell(AGE, 0, 2).run(
-        b"a sum weighted by a plain column, and a cell with mark 2",
-    );
+        rt,
+        "a sum weighted by a plain column, and a cell with mark 2",
+    )?;
     depot()
         .byte(USES_NODE, 5)
         .lend(WORK, 0)
-        .run(b"an unknown node, and no cells to work in");
+        .run(rt, "an unknown node, and no cells to work in")?;
     depot()
         .cell(AGE, 2147483648, 0)
         .lend(LIMIT, 0)
-        .run(b"cell 2,147,483,648, and L 0");
+        .run(rt, "cell 2,147,483,648, and L 0")?;
     depot()
         .lend(LIMIT, 6)
         .lend(RESULT, 35)
-        .run(b"L 6, and 35 cells for the result, of 36");
+        .run(rt, "L 6, and 35 cells for the result, of 36")?;
+    Ok(())
 }

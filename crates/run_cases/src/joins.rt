@@ -5,6 +5,7 @@ use crate::depot::{depot_tables, full_outer, on_tile, uses_and_releases};
 use crate::plans::{
     COUNT, FULL_OUTER, INNER, LEFT_OUTER, Plan, ROWS, SUM, WEIGHTED_COUNT, WEIGHTED_SUM,
 };
+use std::io;
 
 fn inner() -> Plan {
     on_tile(INNER, 0, 0)
@@ -37,15 +38,16 @@ fn over_depot(plan: Plan, limit: usize) -> Case {
     Case::new(plan, depot_tables(), uses_and_releases(), 3, 6, limit)
 }
 
-pub(crate) fn kind_cases() {
-    over_depot(inner(), 5).run(b"inner join with L 5");
-    over_depot(inner(), 4).run(b"inner join with L 4");
-    over_depot(left_outer(), 6).run(b"left outer join with L 6");
-    over_depot(left_outer(), 5).run(b"left outer join with L 5");
-    over_depot(full_outer(), 7).run(b"full outer join with L 7");
-    over_depot(full_outer(), 6).run(b"full outer join with L 6");
-    over_depot(on_two_pairs(), 4).run(b"inner join on tile and on depot = class");
-    over_depot(releases_twice(), 6).run(b"releases joined with themselves on tile");
+pub(crate) fn kind_cases(rt: &impl Print) -> io::Result<()> {
+    over_depot(inner(), 5).run(rt, "inner join with L 5")?;
+    over_depot(inner(), 4).run(rt, "inner join with L 4")?;
+    over_depot(left_outer(), 6).run(rt, "left outer join with L 6")?;
+    over_depot(left_outer(), 5).run(rt, "left outer join with L 5")?;
+    over_depot(full_outer(), 7).run(rt, "full outer join with L 7")?;
+    over_depot(full_outer(), 6).run(rt, "full outer join with L 6")?;
+    over_depot(on_two_pairs(), 4).run(rt, "inner join on tile and on depot = class")?;
+    over_depot(releases_twice(), 6).run(rt, "releases joined with themselves on tile")?;
+    Ok(())
 }
 
 // One use, whose tile is null, and one release, whose tile is null too.
@@ -60,10 +62,11 @@ fn over_null_tiles(plan: Plan) -> Case {
     Case::new(plan, [3, 1, 0, 3, 1, 3, 0, 0, 0], cells, 3, 6, 2)
 }
 
-pub(crate) fn null_cases() {
-    over_null_tiles(inner()).run(b"inner join of null tiles");
-    over_null_tiles(left_outer()).run(b"left outer join of null tiles");
-    over_null_tiles(full_outer()).run(b"full outer join of null tiles");
+pub(crate) fn null_cases(rt: &impl Print) -> io::Result<()> {
+    over_null_tiles(inner()).run(rt, "inner join of null tiles")?;
+    over_null_tiles(left_outer()).run(rt, "left outer join of null tiles")?;
+    over_null_tiles(full_outer()).run(rt, "full outer join of null tiles")?;
+    Ok(())
 }
 
 // The left outer join with a default for the release's class.
@@ -71,11 +74,12 @@ fn class_default(n: [u8; 5]) -> Case {
     over_depot(on_tile(LEFT_OUTER, 0, 3).null().default(n).null(), 6)
 }
 
-pub(crate) fn default_cases() {
-    class_default([254, 255, 255, 255, 0]).run(b"default 2,147,483,647");
-    class_default([0, 0, 0, 0, 1]).run(b"default 2,147,483,648");
-    class_default([253, 255, 255, 255, 0]).run(b"default -2,147,483,647");
-    class_default([255, 255, 255, 255, 0]).run(b"default -2,147,483,648");
+pub(crate) fn default_cases(rt: &impl Print) -> io::Result<()> {
+    class_default([254, 255, 255, 255, 0]).run(rt, "default 2,147,483,647")?;
+    class_default([0, 0, 0, 0, 1]).run(rt, "default 2,147,483,648")?;
+    class_default([253, 255, 255, 255, 0]).run(rt, "default -2,147,483,647")?;
+    class_default([255, 255, 255, 255, 0]).run(rt, "default -2,147,483,648")?;
+    Ok(())
 }
 
 // The uses by depot and tile: sum of age, count of age, and c, the count of rows.
@@ -111,9 +115,10 @@ fn weighted(aggregate: u8, c: u8, limit: usize) -> Case {
     Case::new(plan, depot_tables(), uses_and_releases(), 5, 6, limit)
 }
 
-pub(crate) fn weight_cases() {
-    weighted(WEIGHTED_SUM, 2, 5).run(b"plan A by weights with L 5");
-    weighted(WEIGHTED_SUM, 2, 4).run(b"plan A by weights with L 4");
-    weighted(WEIGHTED_COUNT, 2, 5).run(b"plan A by weights with a weighted count of limit");
-    weighted(WEIGHTED_SUM, 4, 5).run(b"plan A by weights with 2 as the default of a weight");
+pub(crate) fn weight_cases(rt: &impl Print) -> io::Result<()> {
+    weighted(WEIGHTED_SUM, 2, 5).run(rt, "plan A by weights with L 5")?;
+    weighted(WEIGHTED_SUM, 2, 4).run(rt, "plan A by weights with L 4")?;
+    weighted(WEIGHTED_COUNT, 2, 5).run(rt, "plan A by weights with a weighted count of limit")?;
+    weighted(WEIGHTED_SUM, 4, 5).run(rt, "plan A by weights with 2 as the default of a weight")?;
+    Ok(())
 }

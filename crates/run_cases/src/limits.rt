@@ -2,6 +2,7 @@
 use crate::cases::{Case, PLAN, one_column};
 use crate::cells::Cells;
 use crate::plans::{INNER, Plan, ROWS};
+use std::io;
 
 // A plan of so many nodes and such a width over a table of one column and so many rows.
 fn over_ones(plan: Plan, rows: usize, nodes: usize, width: usize, limit: usize) -> Case {
@@ -24,17 +25,18 @@ fn counted(rows: usize, limit: usize) -> Case {
     )
 }
 
-pub(crate) fn row_cases() {
-    ones(1024, 1024).run(b"a table of 1,024 rows");
-    ones(1025, 1025).run(b"a table of 1,025 rows");
-    ones(0, 1).run(b"a table of no rows");
-    ones(1, 1).run(b"a table of 1 row with L 1");
-    ones(1, 4096).run(b"a table of 1 row with L 4,096");
-    ones(1, 4097).run(b"a table of 1 row with L 4,097");
-    ones(8, 8).run(b"a table of 8 rows with L 8");
-    ones(8, 7).run(b"a table of 8 rows with L 7");
-    counted(8, 8).run(b"a table of 8 rows counted with L 8");
-    counted(8, 7).run(b"a table of 8 rows counted with L 7");
+pub(crate) fn row_cases(rt: &impl Print) -> io::Result<()> {
+    ones(1024, 1024).run(rt, "a table of 1,024 rows")?;
+    ones(1025, 1025).run(rt, "a table of 1,025 rows")?;
+    ones(0, 1).run(rt, "a table of no rows")?;
+    ones(1, 1).run(rt, "a table of 1 row with L 1")?;
+    ones(1, 4096).run(rt, "a table of 1 row with L 4,096")?;
+    ones(1, 4097).run(rt, "a table of 1 row with L 4,097")?;
+    ones(8, 8).run(rt, "a table of 8 rows with L 8")?;
+    ones(8, 7).run(rt, "a table of 8 rows with L 7")?;
+    counted(8, 8).run(rt, "a table of 8 rows counted with L 8")?;
+    counted(8, 7).run(rt, "a table of 8 rows counted with L 7")?;
+    Ok(())
 }
 
 fn distinct(plan: Plan) -> Plan {
@@ -75,16 +77,17 @@ fn paired(pairs: u8) -> Case {
     over_ones(plan, 1, 3, 2, 1)
 }
 
-pub(crate) fn node_cases() {
-    chain().lend(PLAN, 47).run(b"12 nodes");
-    chain().run(b"13 nodes");
-    three_leaves(8).run(b"3 leaves of 2 rows with L 8");
-    three_leaves(7).run(b"3 leaves of 2 rows with L 7");
-    four_leaves().run(b"4 leaves");
-    paired(0).lend(PLAN, 10).run(b"a join on no pair");
-    paired(4).lend(PLAN, 18).run(b"a join on 4 pairs");
-    paired(5).run(b"a join on 5 pairs");
-    over_ones(Plan::new().table(0, 1).group(0, 0), 1, 2, 1, 1).run(b"a grouping of no columns");
+pub(crate) fn node_cases(rt: &impl Print) -> io::Result<()> {
+    chain().lend(PLAN, 47).run(rt, "12 nodes")?;
+    chain().run(rt, "13 nodes")?;
+    three_leaves(8).run(rt, "3 leaves of 2 rows with L 8")?;
+    three_leaves(7).run(rt, "3 leaves of 2 rows with L 7")?;
+    four_leaves().run(rt, "4 leaves")?;
+    paired(0).lend(PLAN, 10).run(rt, "a join on no pair")?;
+    paired(4).lend(PLAN, 18).run(rt, "a join on 4 pairs")?;
+    paired(5).run(rt, "a join on 5 pairs")?;
+    over_ones(Plan::new().table(0, 1).group(0, 0), 1, 2, 1, 1).run(rt, "a grouping of no columns")?;
+    Ok(())
 }
 
 // A row of so many columns joined with one of one column.
@@ -98,7 +101,8 @@ fn widened(columns: u8) -> Case {
     Case::new(plan, tables, Cells::all(1), 3, columns as usize + 1, 1)
 }
 
-pub(crate) fn column_cases() {
-    widened(15).run(b"15 columns and 1 joined");
-    widened(16).run(b"16 columns and 1 joined");
+pub(crate) fn column_cases(rt: &impl Print) -> io::Result<()> {
+    widened(15).run(rt, "15 columns and 1 joined")?;
+    widened(16).run(rt, "16 columns and 1 joined")?;
+    Ok(())
 }

@@ -1,16 +1,16 @@
 // What a case writes: its line, and the rows of a short result.
 use crate::cases::{FILL, FILL_MARK, at_most, cells_in};
-use libc::STDOUT_FILENO;
+use std::io;
 
 // The rows of a result are written where they are no more than this.
 const SHORT: usize = 7;
 
-fn say(words: &[u8]) {
-    io::write_all(STDOUT_FILENO, words);
+fn say(rt: &impl Print, words: &str) -> io::Result<()> {
+    rt.print(words)
 }
 
-fn say_count(n: u64) {
-    io::print_decimal(STDOUT_FILENO, n);
+fn say_count(rt: &impl Print, n: u64) -> io::Result<()> {
+    rt.print(n)
 }
 
 // A number that is not negative as a count; 0 of a negative one.
@@ -22,66 +22,63 @@ fn count_of(n: i64) -> u64 {
 }
 
 // `!n` is -1 - n, which has no sign where n has one and never leaves the range.
-fn say_number(n: i64) {
+fn say_number(rt: &impl Print, n: i64) -> io::Result<()> {
     if n < 0 {
-        say(b"-");
-        say_count(std::num::wrapping_add_u64(count_of(!n), 1));
-        return;
+        say(rt, "-")?;
+        return say_count(rt, std::num::wrapping_add_u64(count_of(!n), 1));
     }
-    say_count(count_of(n));
+    say_count(rt, count_of(n))
 }
 
-fn say_cell(cell: i64, mark: u8) {
+fn say_cell(rt: &impl Print, cell: i64, mark: u8) -> io::Result<()> {
     if mark == 0 {
-        say_number(cell);
-        return;
+        return say_number(rt, cell);
     }
     if mark == 1 {
         if cell == 0 {
-            say(b"null");
-            return;
+            return say(rt, "null");
         }
     }
-    say(b"neither a number nor null");
+    say(rt, "neither a number nor null")
 }
 
-fn say_rows_counted(rows: usize) {
-    say_count(rows as u64);
+fn say_rows_counted(rt: &impl Print, rows: usize) -> io::Result<()> {
+    say_count(rt, rows as u64)?;
     if rows == 1 {
-        say(b" row");
-        return;
+        return say(rt, " row");
     }
-    say(b" rows");
+    say(rt, " rows")
 }
 
-pub(crate) fn say_outcome(label: &[u8], number: u32, rows: usize) {
-    say(label);
-    say(b": ");
-    say_count(number as u64);
-    say(b", ");
-    say_rows_counted(rows);
+pub(crate) fn say_outcome(
+    rt: &impl Print,
+    label: &str,
+    number: u32,
+    rows: usize,
+) -> io::Result<()> {
+    say(rt, label)?;
+    say(rt, ": ")?;
+    say_count(rt, number as u64)?;
+    say(rt, ", ")?;
+    say_rows_counted(rt, rows)
 }
 
 // Whether every cell from a place on is this one.
 fn cells_are(cells: &[i64], from: usize, cell: i64) -> bool {
-    let mut at = from;
-    while at < cells.len() {
+    for at in from..cells.len() {
         if cells[at] != cell {
             return false;
         }
-        at += 1;
     }
     true
 }
 
 // Whether every mark from a place on is this one.
 fn marks_are(marks: &[u8], from: usize, mark: u8) -> bool {
-    let mut at = from;
-    while at < marks.len() {
+    for at in from..marks.len() {
         if marks[at] != mark {
             return false;
         }
-        at += 1;
     }
     true
 }
@@ -101,55 +98,64 @@ fn cleared(cells: &[i64], marks: &[u8]) -> bool {
     marks_are(marks, 0, 0)
 }
 
-pub(crate) fn say_work(work: &[i64], marks: &[u8]) {
+pub(crate) fn say_work(rt: &impl Print, work: &[i64], marks: &[u8]) -> io::Result<()> {
     if kept(work, marks, 0) {
-        say(b", work kept");
-        return;
+        return say(rt, ", work kept");
     }
     if cleared(work, marks) {
-        say(b", work 0");
-        return;
+        return say(rt, ", work 0");
     }
-    say(b", work neither kept nor 0");
+    say(rt, ", work neither kept nor 0")
 }
 
-pub(crate) fn say_result(res: &[i64], marks: &[u8], rows: usize, width: usize) {
+pub(crate) fn say_result(
+    rt: &impl Print,
+    res: &[i64],
+    marks: &[u8],
+    rows: usize,
+    width: usize,
+) -> io::Result<()> {
     if !kept(res, marks, cells_in(rows, width)) {
-        say(b", result not kept\n");
-        return;
+        return say(rt, ", result not kept\n");
     }
-    say(b", result kept");
+    say(rt, ", result kept")?;
     if 0 < rows {
-        say(b" behind ");
-        say_rows_counted(rows);
+        say(rt, " behind ")?;
+        say_rows_counted(rt, rows)?;
     }
-    say(b"\n");
+    say(rt, "\n")
 }
 
 // The cell at a place of rows of a width, with what stands before it and behind it: a row is a line.
-fn say_cell_at(cell: i64, mark: u8, at: usize, width: usize) {
+fn say_cell_at(rt: &impl Print, cell: i64, mark: u8, at: usize, width: usize) -> io::Result<()> {
     if width == 0 {
-        return;
+        return Ok(());
     }
     let column = at % width;
     if column == 0 {
-        say(b"   ");
+        say(rt, "   ")?;
     }
-    say(b" ");
-    say_cell(cell, mark);
+    say(rt, " ")?;
+    say_cell(rt, cell, mark)?;
     if column == width - 1 {
-        say(b"\n");
+        say(rt, "\n")?;
     }
+    Ok(())
 }
 
-pub(crate) fn say_rows(res: &[i64], marks: &[u8], rows: usize, width: usize) {
+pub(crate) fn say_rows(
+    rt: &impl Print,
+    res: &[i64],
+    marks: &[u8],
+    rows: usize,
+    width: usize,
+) -> io::Result<()> {
     if SHORT < rows {
-        return;
+        return Ok(());
     }
     let end = at_most(at_most(cells_in(rows, width), res.len()), marks.len());
-    let mut at = 0;
-    while at < end {
-        say_cell_at(res[at], marks[at], at, width);
-        at += 1;
+    for at in 0..end {
+        say_cell_at(rt, res[at], marks[at], at, width)?;
     }
+    Ok(())
 }

@@ -11,21 +11,24 @@ mod limits;
 mod lines;
 mod plans;
 
-fn main() {
-    depot::worked_cases();
-    depot::cell_cases();
-    depot::table_cases();
-    depot::lent_run_cases();
-    depot::room_cases();
-    depot::byte_cases();
-    depot::plan_cases();
-    depot::order_cases();
-    limits::row_cases();
-    limits::node_cases();
-    limits::column_cases();
-    joins::kind_cases();
-    joins::null_cases();
-    joins::default_cases();
-    joins::weight_cases();
-    groupings::grouping_cases();
+use std::io;
+
+fn main(rt: HostRuntime) -> io::Result<()> {
+    depot::worked_cases(&rt)?;
+    depot::cell_cases(&rt)?;
+    depot::table_cases(&rt)?;
+    depot::lent_run_cases(&rt)?;
+    depot::room_cases(&rt)?;
+    depot::byte_cases(&rt)?;
+    depot::plan_cases(&rt)?;
+    depot::order_cases(&rt)?;
+    limits::row_cases(&rt)?;
+    limits::node_cases(&rt)?;
+    limits::column_cases(&rt)?;
+    joins::kind_cases(&rt)?;
+    joins::null_cases(&rt)?;
+    joins::default_cases(&rt)?;
+    joins::weight_cases(&rt)?;
+    groupings::grouping_cases(&rt)?;
+    Ok(())
 }
