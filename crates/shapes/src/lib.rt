@@ -167,6 +167,7 @@ fn takes(tag: u8) -> usize
 }
 
 // The shape of a byte string of any length, in one pass that counts the trees that no node has taken yet.
+#[tactic(auto, using(crate::specs::Scanning::scanned_ends), unfolding(crate::specs::Shapes::ended))]
 pub fn shape_of(s: &[u8]) -> Shape
     ensures { result ≡ shape_of s.now }
 {

@@ -3,10 +3,8 @@ use mathlib.Core.Path.{sym, ◌∙◌}
 use Prim.Native.Nat.{◌-◌, ◌≤◌}
 use native.Mathlib.Omega.{arith}
 use lib.ListN.{length}
-use borrow.Author.Tests.{eq-eqb, ne_eqb}
-use Rattle.shapes.specs.Shapes.{ended}
 use Rattle.shapes.specs.Sizes.{node-fits}
-use Rattle.shapes.specs.Scanning.{scanned_starts, scanned_bad, scanned_few, scanned_step, scanned_ends, table_counts, other-counts}
+use Rattle.shapes.specs.Scanning.{scanned_starts, scanned_bad, scanned_few, scanned_step, table_counts, other-counts}
 use Rattle.shapes.proofs.shape_of.Goals as goal
 use Rattle.shapes.proofs.shape_of.Goals.{Joined-tag-eq0, then-tag-eq0, else-tag-eq0}
 
@@ -57,11 +55,3 @@ loop-at-preserved c =
     c.loop-at-test.true
     c.if-size-eq0.false
     c.if-trees-taken.false
-
-pub returns-then-trees-eq1 : goal.returns-then-trees-eq1
-unfolding ended
-returns-then-trees-eq1 c = simp (eq-eqb _ _ c.if-trees-eq1.true) at (scanned_ends c.loop-at.invariant c.loop-at-test.false)
-
-pub returns-else-trees-eq1 : goal.returns-else-trees-eq1
-unfolding ended
-returns-else-trees-eq1 c = simp (ne_eqb _ _ c.if-trees-eq1.false) at (scanned_ends c.loop-at.invariant c.loop-at-test.false)
