@@ -1,15 +1,10 @@
 -- The plan of a byte string: its nodes are read from the front, and the trees that no node has taken yet stand on a stack.
 -- Every plan is read back from its string, and a string that a plan is read from is that plan's.
-use mathlib.Core.Path.{◌≡◌, refl, sym, ap, subst, ◌∙◌}
-use mathlib.Core.Bool.{Bool, true, false, cond, ◌&&◌}
-use mathlib.Core.List.{List, [], ◌∷◌, ◌++◌, append_assoc}
+use Rattle.std.proofs.Common.{◌≡◌, refl, sym, ap, subst, ◌∙◌, Bool, true, false, cond, ◌&&◌, List, [], ◌∷◌, ◌++◌, append_assoc, ℕ, zero, suc, ◌+◌, ◌-◌, ◌<◌, ◌≤◌, arith, eqb, leb, lit<, length, length-append, ne_eqb, leb-true, le-leb}
 use mathlib.Core.Option.{Option, some, none}
-use Prim.Native.Nat.{ℕ, zero, suc, ◌+◌, ◌-◌, ◌<◌, ◌≤◌}
 use native.Mathlib.Decide.{dec_lt}
-use native.Mathlib.Omega.{arith}
-use lib.Dec.{eqb, leb, lit<, eqb-suc-zero}
-use lib.ListN.{length, length-append}
-use borrow.Author.Tests.{ne_eqb, leb-true, lt-leb, le-leb}
+use lib.Dec.{eqb-suc-zero}
+use borrow.Author.Tests.{lt-leb}
 use Rattle.meaning.specs.Plans.{Aggregate, Pair, Join, Plan, leaf, join, group}
 use Rattle.meaning.specs.Columns.{nodes}
 use Rattle.meaning.specs.Arrangement.{join_bytes, group_bytes, bytes, Answers, for_no_plan, for_plan}

@@ -1,15 +1,7 @@
 -- Defaults, pairs, grouping columns and aggregates, read back out of their bytes: what is written is read, and bytes that pass
 -- their test are those of what is read.
-use mathlib.Core.Path.{◌≡◌, refl, sym, ap, subst, ◌∙◌}
-use mathlib.Core.Bool.{Bool, true, false, cond, ◌&&◌, ◌||◌}
-use mathlib.Core.List.{List, [], ◌∷◌}
-use Prim.Native.Nat.{ℕ, ◌+◌, ◌*◌, ◌/◌, ◌%◌, ◌<◌, ◌≤◌}
-use native.Mathlib.Nat.{add-zero}
-use native.Mathlib.Omega.{arith}
-use lib.Dec.{eqb, ltb, lit<, eqb→eq}
-use lib.ListN.{length, get_or, replicate}
-use lib.IntN.{ℤ, pos, negsuc}
-use borrow.Author.Tests.{eq-eqb, eqb-true, eqb-false, ltb-true}
+use Rattle.std.proofs.Common.{◌≡◌, refl, sym, ap, subst, ◌∙◌, Bool, true, false, cond, ◌&&◌, ◌||◌, List, [], ◌∷◌, ℕ, ◌+◌, ◌*◌, ◌/◌, ◌%◌, ◌<◌, ◌≤◌, add-zero, arith, eqb, ltb, lit<, eqb→eq, length, get_or, replicate, ℤ, pos, negsuc, eq-eqb, eqb-true, ltb-true}
+use borrow.Author.Tests.{eqb-false}
 use Rattle.meaning.specs.Cells.{Cell, null, num}
 use Rattle.meaning.specs.Plans.{Name, Rows, Count, Sum, Least, Greatest, DistinctSum, DistinctCount, WeightedSum, WeightedCount, Aggregate, rows, count, sum, least, greatest, distinct_sum, distinct_count, weighted_sum, weighted_count, name_of, columns_read, Pair}
 use Rattle.meaning.specs.Arrangement.{zigzag, low_first, cell_bytes, pair_bytes, column_bytes, name_number, two_places, aggregate_bytes}

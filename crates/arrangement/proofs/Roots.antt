@@ -1,13 +1,6 @@
 -- One node, read back out of its bytes: what is written is read and has its size, and bytes of a size are those of what is read.
-use mathlib.Core.Path.{◌≡◌, refl, sym, ap, subst, ◌∙◌}
-use mathlib.Core.Bool.{Bool, true, false, cond, ◌&&◌, ◌||◌}
-use mathlib.Core.List.{List, [], ◌∷◌, ◌++◌, map}
-use Prim.Native.Nat.{ℕ, zero, suc, ◌+◌, ◌*◌, ◌<◌, ◌≤◌}
-use native.Mathlib.Nat.{add-zero}
-use native.Mathlib.Omega.{arith}
-use lib.Dec.{eqb, leb}
-use lib.ListN.{length, get_or, length-append}
-use borrow.Author.Tests.{ne_eqb, eqb-true, eqb-false, lt-leb, le-leb}
+use Rattle.std.proofs.Common.{◌≡◌, refl, sym, ap, subst, ◌∙◌, Bool, true, false, cond, ◌&&◌, ◌||◌, List, [], ◌∷◌, ◌++◌, map, ℕ, zero, suc, ◌+◌, ◌*◌, ◌<◌, ◌≤◌, add-zero, arith, eqb, leb, length, get_or, length-append, ne_eqb, eqb-true, le-leb}
+use borrow.Author.Tests.{eqb-false, lt-leb}
 use Rattle.meaning.specs.Cells.{Cell}
 use Rattle.meaning.specs.Plans.{Row, Aggregate, Pair, Join, inner, left_outer, full_outer, left_defaults, right_defaults}
 use Rattle.meaning.specs.Arrangement.{in_row, cell_bytes, pair_bytes, join_number, join_bytes, column_bytes, aggregate_bytes, group_bytes}

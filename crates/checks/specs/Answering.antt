@@ -1,11 +1,11 @@
 -- The check's answer for a byte string, from its shape and from the node of its root.
 use Rattle.std.proofs.Math.Path.{◌≡◌, refl, sym, ap}
-use Rattle.std.proofs.Common.{subst, ◌∙◌, arith}
+use Rattle.std.proofs.Common.{subst, ◌∙◌, arith, le-leb}
 use Rattle.std.proofs.Math.Bool.{true, false}
 use Rattle.std.specs.Prelude.{List, ℕ, ◌-◌, ◌<◌, ◌≤◌, get_or}
 use Rattle.std.proofs.Math.Option.{Option, some, none}
 use Rattle.std.proofs.Math.Dec.{leb}
-use borrow.Author.Tests.{le-leb, lt-leb}
+use borrow.Author.Tests.{lt-leb}
 use Rattle.meaning.specs.Limits.{most_nodes, most_leaves}
 use Rattle.meaning.specs.Plans.{Plan}
 use Rattle.meaning.specs.Columns.{width, nodes, leaves}

@@ -1,8 +1,7 @@
 -- What the check knows of a node: the number, width, place and kinds of the subtree whose root it is.
 use Rattle.std.specs.Prelude.{◌≡◌, true, List, [], ◌∷◌, map, ℕ, ◌+◌, ◌*◌, ◌-◌, ◌<◌, ◌≤◌, get_or, take}
-use Rattle.std.proofs.Common.{sym, ap, ◌∙◌, lit<}
+use Rattle.std.proofs.Common.{sym, ap, ◌∙◌, lit<, arith}
 use Rattle.std.proofs.Math.Path.{subst}
-use native.Mathlib.Omega.{arith}
 use Rattle.std.proofs.Math.ListN.{length}
 use Rattle.std.proofs.lemmas.Bool.{eqb-false}
 use Rattle.meaning.specs.Plans.{Aggregate, Pair, Join, Plan, leaf, join, group}

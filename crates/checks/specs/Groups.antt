@@ -1,10 +1,8 @@
 -- A grouping's node describes the grouping, and a table's node the table.
 use Rattle.std.specs.Prelude.{◌≡◌, refl, Bool, true, false, cond, ◌&&◌, ℕ, zero, suc, ◌+◌, ◌<◌, ◌≤◌, leb, replicate}
 use Rattle.std.proofs.Math.Path.{sym, ap}
-use Rattle.std.proofs.Common.{subst, ◌∙◌, leb-true}
+use Rattle.std.proofs.Common.{subst, ◌∙◌, leb-true, List, ◌∷◌, ◌++◌, map, arith}
 use Rattle.std.proofs.Math.Bool.{and-true}
-use mathlib.Core.List.{List, ◌∷◌, ◌++◌, map}
-use native.Mathlib.Omega.{arith}
 use Rattle.std.proofs.Math.ListN.{length, take}
 use Rattle.meaning.specs.Limits.{most_columns, up_to}
 use Rattle.meaning.specs.Plans.{Aggregate, columns_read, Plan, leaf, join, group}

@@ -1,13 +1,11 @@
 -- A join's node describes the join: its tests of bytes are those of the tree, and so are its kinds.
 use Rattle.std.specs.Prelude.{◌≡◌, refl, ◌⊎◌, Bool, ◌&&◌, ℕ, ◌+◌, ◌*◌, ◌≤◌, eqb, length}
 use Rattle.std.proofs.Math.Path.{sym, ap}
-use Rattle.std.proofs.Common.{◌∙◌, ⊎_elim}
+use Rattle.std.proofs.Common.{◌∙◌, ⊎_elim, List, [], ◌++◌, map, leb-true, eqb-true}
 use Rattle.std.proofs.Math.Logic.{inl, inr}
 use Rattle.std.proofs.Math.Bool.{true}
-use mathlib.Core.List.{List, [], ◌++◌, map}
 use Rattle.std.proofs.Math.Dec.{leb}
 use Rattle.std.proofs.Math.ListN.{take}
-use borrow.Author.Tests.{leb-true, eqb-true}
 use Rattle.meaning.specs.Limits.{most_columns, up_to}
 use Rattle.meaning.specs.Cells.{Cell}
 use Rattle.meaning.specs.Plans.{Pair, Join, inner, left_outer, full_outer, left_defaults, right_defaults, Plan, join}

@@ -1,15 +1,12 @@
 -- The shape of a byte string is that of the plan that is read from it.
 use Rattle.std.specs.Prelude.{◌≡◌, Bool, cond, leb}
 use Rattle.std.proofs.Math.Path.{refl}
-use Rattle.std.proofs.Common.{◌∙◌}
+use Rattle.std.proofs.Common.{◌∙◌, List, [], ◌∷◌, ℕ, zero, suc, ◌+◌, ◌-◌, arith, le-ltb, ne_eqb, eqb-true}
 use Rattle.std.proofs.Math.Bool.{true, false}
-use mathlib.Core.List.{List, [], ◌∷◌}
 use Rattle.std.proofs.Math.Option.{Option, some, none}
-use Prim.Native.Nat.{ℕ, zero, suc, ◌+◌, ◌-◌}
-use native.Mathlib.Omega.{arith}
 use Rattle.std.proofs.Math.Dec.{eqb, ltb, eqb-suc-suc, eqb-suc-zero}
 use Rattle.std.proofs.Math.ListN.{length}
-use borrow.Author.Tests.{le-ltb, ne_eqb, eqb-true, eqb-false}
+use borrow.Author.Tests.{eqb-false}
 use Rattle.meaning.specs.Plans.{Aggregate, Pair, Join, Plan, leaf, join, group}
 use Rattle.meaning.specs.Columns.{nodes, leaves}
 use Rattle.node_bytes.specs.Nodes.{byte, node_size, inputs}

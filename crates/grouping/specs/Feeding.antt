@@ -1,8 +1,7 @@
 -- A running aggregate that is fed with the rows of an area, in order.
 use Rattle.std.specs.Prelude.{◌≡◌, ℕ, zero, suc, ◌+◌, ◌-◌, ◌*◌, ◌<◌, ◌≤◌, ◌^◌, length, get_or, ℤ, pos}
 use Rattle.std.proofs.Math.Path.{refl, sym, ap}
-use Rattle.std.proofs.Common.{subst, ◌∙◌, arith}
-use mathlib.Core.List.{List, [], ◌∷◌, ◌++◌, append_assoc, append-nil}
+use Rattle.std.proofs.Common.{subst, ◌∙◌, arith, List, [], ◌∷◌, ◌++◌, append_assoc, append-nil}
 use Rattle.meaning.specs.Plans.{Row, Table, Name, Aggregate, name_of, columns_read}
 use Rattle.meaning.specs.Joining.{cell}
 use Rattle.meaning.specs.Aggregating.{values_of}

@@ -1,10 +1,10 @@
 -- One aggregate over the rows of a run: a distinct one over more than one row is fed with a sorted copy of its column.
 use Rattle.std.specs.Prelude.{◌≡◌, Bool, not, cond, ◌&&◌, List, [], ◌∷◌, ◌++◌, ℕ, ◌+◌, ◌*◌, ◌<◌, ◌≤◌, ◌^◌, length, get_or, ℤ}
 use Rattle.std.proofs.Math.Path.{refl, sym, ap}
-use Rattle.std.proofs.Common.{◌∙◌, inl, inr, mul-le-mul_right, arith, lit<}
+use Rattle.std.proofs.Common.{◌∙◌, inl, inr, mul-le-mul_right, arith, lit<, ltb-true, ltb-false}
 use Rattle.std.proofs.Math.Bool.{true, false}
 use Rattle.std.proofs.Math.Dec.{ltb}
-use borrow.Author.Tests.{ltb-true, ltb-false, not-true}
+use borrow.Author.Tests.{not-true}
 use Rattle.meaning.specs.Cells.{Cell}
 use Rattle.meaning.specs.Plans.{Table, Name, Aggregate, rows, count, sum, least, greatest, distinct_sum, distinct_count, weighted_sum, weighted_count, name_of, columns_read}
 use Rattle.meaning.specs.Joining.{cell}

@@ -1,11 +1,8 @@
 -- Rows that are stably sorted: what an aggregate takes of them is as much, and of a column sorted by itself a distinct one's values ascend.
 use Rattle.std.specs.Prelude.{◌≡◌, Bool, cond, get_or, ℤ}
 use Rattle.std.proofs.Math.Path.{refl, ap}
-use Rattle.std.proofs.Common.{sym, ◌∙◌}
+use Rattle.std.proofs.Common.{sym, ◌∙◌, List, [], ◌∷◌, ◌++◌, ℕ, zero, suc, ◌+◌, ◌≤◌, arith}
 use Rattle.std.proofs.Math.Bool.{true, false, not}
-use mathlib.Core.List.{List, [], ◌∷◌, ◌++◌}
-use Prim.Native.Nat.{ℕ, zero, suc, ◌+◌, ◌≤◌}
-use native.Mathlib.Omega.{arith}
 use Rattle.std.proofs.Math.ListN.{length}
 use Rattle.std.specs.Int.Signed.{lt_z}
 use Rattle.meaning.specs.Plans.{Row, Table, Name, Aggregate, rows, count, sum, least, greatest, distinct_sum, distinct_count, weighted_sum, weighted_count, name_of, columns_read}

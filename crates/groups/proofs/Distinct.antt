@@ -1,10 +1,5 @@
 -- A distinct aggregate needs its rows in no order: only which values occur matters. Of rows sorted by the column that it reads, the values ascend.
-use mathlib.Core.Path.{◌≡◌, refl, sym, ap, ◌∙◌}
-use mathlib.Core.Bool.{Bool, false, ◌&&◌, ◌||◌}
-use mathlib.Core.List.{List, [], ◌∷◌, ◌++◌}
-use Prim.Native.Nat.{ℕ}
-use lib.ListN.{length}
-use lib.IntN.{ℤ, pos}
+use Rattle.std.proofs.Common.{◌≡◌, refl, sym, ap, ◌∙◌, Bool, false, ◌&&◌, ◌||◌, List, [], ◌∷◌, ◌++◌, ℕ, length, ℤ, pos}
 use lib.Signed.{lt_z}
 use Rattle.meaning.specs.Cells.{Cell, null, num, eq_z, groups, below}
 use Rattle.meaning.specs.Plans.{Row, Table, Name, DistinctSum, DistinctCount, Aggregate, distinct_sum, distinct_count, name_of}

@@ -1,9 +1,5 @@
 -- Rows sorted by a grouping's columns, equal keys in their old order, have the grouping's groups as their runs; and there is one way to sort so.
-use mathlib.Core.Path.{◌≡◌, refl, sym, ap, ◌∙◌}
-use mathlib.Core.Bool.{Bool, true, false, cond}
-use mathlib.Core.List.{List, [], ◌∷◌, map}
-use Prim.Native.Nat.{ℕ, zero, suc, ◌<◌}
-use lib.ListN.{length, get_or, take, drop}
+use Rattle.std.proofs.Common.{◌≡◌, refl, sym, ap, ◌∙◌, Bool, true, false, cond, List, [], ◌∷◌, map, ℕ, zero, suc, ◌<◌, length, get_or, take, drop}
 use Rattle.meaning.specs.Plans.{Row, Table, Aggregate}
 use Rattle.meaning.specs.Joining.{keep, any}
 use Rattle.meaning.specs.Grouping.{key, same_key, below_key, into_keys, keys_of, group_of, group_row, group_rows}

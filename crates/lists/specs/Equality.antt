@@ -1,9 +1,8 @@
 -- A test of equality, and membership by it.
 use Rattle.std.specs.Prelude.{◌≡◌, Bool, cond, ◌||◌, ◌↔◌}
 use Rattle.std.proofs.Math.Path.{refl, ap, subst}
-use Rattle.std.proofs.Common.{sym, ◌∙◌}
+use Rattle.std.proofs.Common.{sym, ◌∙◌, List, [], ◌∷◌}
 use Rattle.std.proofs.Math.Bool.{true, false}
-use mathlib.Core.List.{List, [], ◌∷◌}
 use Rattle.meaning.specs.Joining.{keep, any}
 use Rattle.lists.specs.Tests.{clash, same_tests, or_cases, or_left, or_right}
 use Rattle.lists.specs.Each.{Each}

@@ -1,10 +1,5 @@
 -- What a worked example claims of a plan, and the test that it holds.
-use mathlib.Core.Bool.{Bool, true, false, ◌&&◌}
-use mathlib.Core.List.{List, [], ◌∷◌, map}
-use Prim.Native.Nat.{ℕ, ◌*◌}
-use lib.Dec.{eqb}
-use lib.ListN.{length, take, replicate}
-use lib.IntN.{pos}
+use Rattle.std.proofs.Common.{Bool, true, false, ◌&&◌, List, [], ◌∷◌, map, ℕ, ◌*◌, eqb, length, take, replicate, pos}
 use Rattle.meaning.specs.Limits.{most_columns}
 use Rattle.meaning.specs.Cells.{Cell, num}
 use Rattle.meaning.specs.Plans.{Table, Plan}

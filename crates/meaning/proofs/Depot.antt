@@ -1,7 +1,5 @@
 -- The worked depot of the scope: tables U and R, plan A and its two pushes, and the cases P1 to P12.
-use mathlib.Core.List.{List, [], ◌∷◌}
-use Prim.Native.Nat.{ℕ}
-use lib.IntN.{pos}
+use Rattle.std.proofs.Common.{List, [], ◌∷◌, ℕ, pos}
 use Rattle.meaning.specs.Cells.{Cell, null, num}
 use Rattle.meaning.specs.Plans.{Row, Table, rows, count, sum, distinct_count, weighted_sum, weighted_count, Pair, left_outer, full_outer, Plan, leaf, join, group}
 use Rattle.meaning.specs.Running.{Lent}

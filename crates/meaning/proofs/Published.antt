@@ -1,8 +1,5 @@
 -- Two examples of Eich and Moerkotte, Dynamic Programming: The Next Step: its Fig. 4 and its Fig. 2.
-use mathlib.Core.List.{List, [], ◌∷◌}
-use Prim.Native.Nat.{ℕ}
-use lib.IntN.{ℤ, pos}
-use lib.ListN.{replicate}
+use Rattle.std.proofs.Common.{List, [], ◌∷◌, ℕ, ℤ, pos, replicate}
 use Rattle.meaning.specs.Cells.{null}
 use Rattle.meaning.specs.Plans.{Row, Table, rows, sum, weighted_sum, Pair, Join, inner, left_outer, full_outer, Plan, leaf, join, group}
 use Rattle.meaning.specs.Running.{Lent}

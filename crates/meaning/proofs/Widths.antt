@@ -1,9 +1,6 @@
 -- How many there are: a plan has as many kinds as columns, and what is read from a place on has as many cells and rows as are asked for.
-use mathlib.Core.Path.{◌≡◌, refl, ap}
-use mathlib.Core.List.{List}
-use Prim.Native.Nat.{ℕ, zero, suc, ◌+◌}
-use lib.ListN.{length, length-append, length-replicate, length-map}
-use lib.IntN.{ℤ}
+use Rattle.std.proofs.Common.{◌≡◌, refl, ap, List, ℕ, zero, suc, ◌+◌, length, length-append, ℤ}
+use lib.ListN.{length-replicate, length-map}
 use Rattle.meaning.specs.Plans.{Plan, leaf, join, group}
 use Rattle.meaning.specs.Columns.{width, kinds}
 use Rattle.meaning.specs.Running.{cells_from, rows_from}

@@ -1,6 +1,5 @@
 -- P1 to P12 and the published examples hold of the definitions: one table, one statement, proved by computing.
-use mathlib.Core.List.{◌++◌}
-use lib.Dec.{T}
+use Rattle.std.proofs.Common.{◌++◌, T}
 use Rattle.meaning.specs.Limits.{most_nodes, most_leaves, most_columns, most_pairs, most_rows, most_size, most_limit, up_to}
 use Rattle.meaning.specs.Cells.{eq_z, joins, groups, below}
 use Rattle.meaning.specs.Plans.{name_of, columns_read, left_defaults, right_defaults}

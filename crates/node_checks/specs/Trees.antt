@@ -1,9 +1,9 @@
 -- The tests of refusals 3 and 4 and the kinds, read off the bytes of a node, are those of the plan tree whose node the bytes hold.
 use Rattle.std.specs.Prelude.{◌≡◌, refl, not, ◌&&◌, ℕ, suc, ◌+◌, ◌<◌, eqb, length, take}
 use Rattle.std.proofs.Math.Path.{sym, ap}
-use Rattle.std.proofs.Common.{◌∙◌, add-zero, arith, ltb-true, lt-ltb, get_or-take}
+use Rattle.std.proofs.Common.{◌∙◌, add-zero, arith, ltb-true, lt-ltb, get_or-take, List, [], ◌∷◌, map}
 use Rattle.std.proofs.Math.Bool.{true}
-use mathlib.Core.List.{List, [], ◌∷◌, map, map-map}
+use mathlib.Core.List.{map-map}
 use Rattle.std.proofs.Math.Dec.{ltb}
 use Rattle.std.proofs.Math.ListN.{get_or, get_or-map}
 use Rattle.meaning.specs.Plans.{Row, Aggregate, rows, count, sum, least, greatest, distinct_sum, distinct_count, weighted_sum, weighted_count, name_of, columns_read, Pair, Plan, leaf, join, group}

@@ -1,8 +1,8 @@
 -- How far the loops over the nodes of a string have come: the one that counts trees, and the one that notes where nodes start.
 use Rattle.std.specs.Prelude.{◌≡◌, refl, Bool, true, false, cond, List, ℕ, zero, suc, ◌+◌, ◌-◌, ◌<◌, ◌≤◌, eqb, length, get_or, set}
-use Rattle.std.proofs.Common.{sym, ap, ◌∙◌, arith, length-set, get_or-set_same, get_or-set_other}
+use Rattle.std.proofs.Common.{sym, ap, ◌∙◌, arith, length-set, get_or-set_same, get_or-set_other, le-leb, lt-ltb, le-ltb, eq-eqb, ne_eqb}
 use Rattle.std.proofs.Math.Decide.{dec_lt}
-use borrow.Author.Tests.{le-leb, lt-leb, lt-ltb, le-ltb, eq-eqb, ne_eqb}
+use borrow.Author.Tests.{lt-leb}
 use Rattle.node_bytes.specs.Nodes.{byte, node_size, inputs}
 use Rattle.shapes.specs.Shapes.{no_shape, ended, leaf_count, scan, shape_of, start_of}
 use Rattle.shapes.specs.Sizes.{node-fits, node_past}

@@ -1,14 +1,13 @@
 -- Tables as three numbers each in one lent list: width, rows and start.
 use Rattle.std.specs.Prelude.{◌≡◌, refl, Bool, true, false, ◌&&◌, List, [], ◌∷◌, ℕ, zero, suc, ◌+◌, ◌-◌, ◌*◌, ◌/◌, ◌^◌, ◌<◌, ◌≤◌, eqb, leb, ltb, ℤ, pos, negsuc, nat_abs}
-use Rattle.std.proofs.Common.{sym, ◌∙◌, SFits, of_z, mul-le-mul}
+use Rattle.std.proofs.Common.{sym, ◌∙◌, SFits, of_z, mul-le-mul, arith, ltb-true, ltb-false, lt-ltb, le-ltb, leb-true, le-leb, eq-eqb, ne_eqb}
 use Rattle.std.proofs.Math.Path.{ap}
 use Rattle.std.proofs.Math.Bool.{or-false}
 use Rattle.std.proofs.Math.ListN.{length, get_or}
 use Rattle.std.specs.Int.Signed.{lt_z, le_z}
 use Rattle.std.specs.Int.{w64}
 use Rattle.std.proofs.Math.Decide.{dec_le}
-use native.Mathlib.Omega.{arith}
-use borrow.Author.Tests.{ltb-true, ltb-false, lt-ltb, le-ltb, leb-true, le-leb, lt-leb, eq-eqb, ne_eqb}
+use borrow.Author.Tests.{lt-leb}
 use Rattle.meaning.specs.Limits.{most_rows, most_size}
 use Rattle.meaning.specs.Cells.{eq_z}
 use Rattle.meaning.specs.Running.{Place, places_in, lent_of, nowhere, cell_right, cells_right, place_right, inside_run}

@@ -1,6 +1,5 @@
 -- `checks::group_node` makes the node that describes a grouping above what its input's node describes.
-use mathlib.Core.Path.{refl}
-use native.Mathlib.Omega.{arith}
+use Rattle.std.proofs.Common.{refl, arith}
 use Rattle.node_bytes.specs.Nodes.{group_size}
 use Rattle.checks.specs.Verdicts.{verdict_of_same}
 use Rattle.checks.specs.Groups.{group_described}

@@ -1,5 +1,5 @@
 -- `checks::join_node` makes the node that describes a join above what its inputs' nodes describe.
-use mathlib.Core.Path.{refl}
+use Rattle.std.proofs.Common.{refl}
 use Rattle.checks.specs.Verdicts.{verdict_of_same}
 use Rattle.checks.specs.Joins.{join_described}
 use Rattle.checks.proofs.join_node.Goals as goal

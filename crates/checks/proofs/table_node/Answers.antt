@@ -1,6 +1,5 @@
 -- `checks::table_node` makes the node that describes a table: its number is that of its width, its kinds are plain.
-use mathlib.Core.Path.{refl, ap, ◌∙◌}
-use mathlib.Core.Bool.{Bool, true}
+use Rattle.std.proofs.Common.{refl, ap, ◌∙◌, Bool, true}
 use Rattle.meaning.specs.Limits.{most_columns}
 use Rattle.checks.specs.Verdicts.{verdict}
 use Rattle.checks.specs.Groups.{table_described}

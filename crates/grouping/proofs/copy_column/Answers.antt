@@ -1,11 +1,5 @@
 -- `grouping::copy_column` picks cell by cell: after j turns the column's first j cells stand at their new place.
-use mathlib.Core.Path.{◌≡◌, refl}
-use Prim.Native.Nat.{◌+◌, ◌*◌, ◌<◌}
-use native.Mathlib.Omega.{arith}
-use lib.ListN.{get_or, length}
-use lib.IntN.{pos}
-use mir.Syntax.{w64}
-use mir.Facts.{to_z-of_z}
+use Rattle.std.proofs.Common.{◌≡◌, refl, ◌+◌, ◌*◌, ◌<◌, arith, get_or, length, pos, w64, to_z-of_z}
 use Rattle.grouping.specs.Picking.{picked_none, picked_more}
 use Rattle.grouping.proofs.copy_column.Goals as goal
 use Rattle.grouping.proofs.copy_column.Goals.{In-loop-j}

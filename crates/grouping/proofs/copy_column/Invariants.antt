@@ -1,6 +1,5 @@
 -- `grouping::copy_column` picks cell by cell: after j turns the column's first j cells stand at their new place.
-use Prim.Native.Nat.{◌-◌, ◌≤◌}
-use lib.IntN.{pos}
+use Rattle.std.proofs.Common.{◌-◌, ◌≤◌, pos}
 use Rattle.grouping.specs.Picking.{Picked, column_place}
 use Rattle.grouping.proofs.copy_column.Given as goal
 

@@ -1,11 +1,5 @@
 -- `grouping::feed` feeds row by row: after k turns the state has taken the first k rows.
-use mathlib.Core.Path.{◌≡◌}
-use Prim.Native.Nat.{◌+◌, ◌*◌, ◌≤◌}
-use native.Mathlib.Omega.{arith}
-use lib.ListN.{get_or, length}
-use lib.IntN.{pos}
-use mir.Syntax.{w64}
-use mir.Facts.{to_z-of_z}
+use Rattle.std.proofs.Common.{◌≡◌, ◌+◌, ◌*◌, ◌≤◌, arith, get_or, length, pos, w64, to_z-of_z}
 use Rattle.grouping.specs.Feeding.{fed_none, fed_room, fed_more, row-cells, row-marks}
 use Rattle.grouping.proofs.feed.Goals as goal
 use Rattle.grouping.proofs.feed.Goals.{In-loop-k}

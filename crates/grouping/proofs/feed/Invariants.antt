@@ -1,5 +1,5 @@
 -- `grouping::feed` feeds row by row: after k turns the state has taken the first k rows.
-use Prim.Native.Nat.{◌-◌, ◌≤◌}
+use Rattle.std.proofs.Common.{◌-◌, ◌≤◌}
 use Rattle.grouping.specs.Feeding.{Fed}
 use Rattle.grouping.proofs.feed.Given as goal
 

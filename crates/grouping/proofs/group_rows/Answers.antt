@@ -1,5 +1,5 @@
 -- `grouping::group_rows` sorts the rows and writes a row for each run: the grouping's rows.
-use native.Mathlib.Omega.{arith}
+use Rattle.std.proofs.Common.{arith}
 use Rattle.grouping.specs.Grouping.{node-inside, sort-room, sorted-room, group-done}
 use Rattle.grouping.proofs.group_rows.Goals as goal
 

@@ -1,6 +1,6 @@
 -- `grouping::run_end` goes on while the rows have the first one's key.
+use Rattle.std.proofs.Common.{arith}
 use borrow.Author.Tests.{not-true, not-false}
-use native.Mathlib.Omega.{arith}
 use Rattle.grouping.specs.Ending.{row-cells, alike-one, keys_in, alike-more, ends-here, ends_last}
 use Rattle.grouping.proofs.run_end.Goals as goal
 

@@ -1,5 +1,5 @@
 -- `grouping::run_end` goes on while the rows have the first one's key.
-use Prim.Native.Nat.{◌-◌}
+use Rattle.std.proofs.Common.{◌-◌}
 use Rattle.meaning.specs.Running.{rows_from}
 use Rattle.sorting.specs.Sorting.{columns}
 use Rattle.grouping.specs.Ending.{Alike}

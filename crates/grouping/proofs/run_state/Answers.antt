@@ -1,8 +1,6 @@
 -- `grouping::run_state` feeds the rows as they are, or a sorted copy of the column.
-use mathlib.Core.Path.{◌≡◌}
-use mathlib.Core.Bool.{true}
+use Rattle.std.proofs.Common.{◌≡◌, true, arith}
 use borrow.Author.Tests.{not-true, not-false}
-use native.Mathlib.Omega.{arith}
 use Rattle.grouping.specs.Single.{plain-room, plain_done, two_cells, column-starts, column-room, order-room, ordered_room, ordered_done}
 use Rattle.grouping.proofs.run_state.Goals as goal
 use Rattle.grouping.proofs.run_state.Goals.{Else-not-needs_order}

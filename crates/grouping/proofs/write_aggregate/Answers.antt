@@ -1,8 +1,5 @@
 -- `grouping::write_aggregate` writes the finished state's cell and mark.
-use borrow.Author.Rules.{rules}
-use native.Mathlib.Omega.{arith}
-use mir.Syntax.{w64}
-use mir.Facts.{to_z-of_z}
+use Rattle.std.proofs.Common.{rules, arith, w64, to_z-of_z}
 use Rattle.grouping.specs.Writing.{cell-done}
 use Rattle.grouping.proofs.write_aggregate.Goals as goal
 

@@ -1,6 +1,5 @@
 -- `grouping::write_aggregates` writes cell by cell: after j turns the first j aggregates stand in the row.
-use mathlib.Core.Path.{◌≡◌}
-use native.Mathlib.Omega.{arith}
+use Rattle.std.proofs.Common.{◌≡◌, arith}
 use Rattle.grouping.specs.Writing.{cells-none, cells-next, cells-more}
 use Rattle.grouping.proofs.write_aggregates.Goals as goal
 

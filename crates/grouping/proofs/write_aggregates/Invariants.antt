@@ -1,5 +1,5 @@
 -- `grouping::write_aggregates` writes cell by cell: after j turns the first j aggregates stand in the row.
-use Prim.Native.Nat.{◌-◌, ◌≤◌}
+use Rattle.std.proofs.Common.{◌-◌, ◌≤◌}
 use Rattle.grouping.specs.Writing.{CellsDone}
 use Rattle.grouping.proofs.write_aggregates.Given as goal
 

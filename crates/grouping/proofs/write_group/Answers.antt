@@ -1,5 +1,5 @@
 -- `grouping::write_group` writes the key and then the aggregates behind it.
-use native.Mathlib.Omega.{arith}
+use Rattle.std.proofs.Common.{arith}
 use Rattle.grouping.specs.Writing.{head_inside, key-room, answers-room, row_done}
 use Rattle.grouping.proofs.write_group.Goals as goal
 

@@ -1,5 +1,5 @@
 -- `grouping::write_groups` goes from run to run: what is written, with what the rows that are left come to, is all.
-use native.Mathlib.Omega.{arith}
+use Rattle.std.proofs.Common.{arith}
 use Rattle.grouping.specs.Grouping.{node-inside, grouped-none, grouped-more, grouped_end, end_room, end_after, end_within, place-room, run-below, count-few, row_room}
 use Rattle.grouping.proofs.write_groups.Goals as goal
 

@@ -1,5 +1,5 @@
 -- `grouping::write_groups` goes from run to run: what is written, with what the rows that are left come to, is all.
-use Prim.Native.Nat.{◌-◌}
+use Rattle.std.proofs.Common.{◌-◌}
 use Rattle.grouping.specs.Grouping.{Grouped}
 use Rattle.grouping.proofs.write_groups.Given as goal
 

@@ -1,11 +1,5 @@
 -- `grouping::write_key` picks cell by cell: after j turns the first j listed columns stand at their new place.
-use mathlib.Core.Path.{◌≡◌, refl}
-use Prim.Native.Nat.{◌+◌, ◌<◌}
-use native.Mathlib.Omega.{arith}
-use lib.ListN.{get_or, length}
-use lib.IntN.{pos}
-use mir.Syntax.{w64}
-use mir.Facts.{to_z-of_z}
+use Rattle.std.proofs.Common.{◌≡◌, refl, ◌+◌, ◌<◌, arith, get_or, length, pos, w64, to_z-of_z}
 use Rattle.node_bytes.specs.Nodes.{byte}
 use Rattle.grouping.specs.Picking.{picked_none, picked_more}
 use Rattle.grouping.proofs.write_key.Goals as goal

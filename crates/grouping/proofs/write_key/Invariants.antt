@@ -1,6 +1,5 @@
 -- `grouping::write_key` picks cell by cell: after j turns the first j listed columns stand at their new place.
-use Prim.Native.Nat.{◌-◌, ◌≤◌}
-use lib.IntN.{pos}
+use Rattle.std.proofs.Common.{◌-◌, ◌≤◌, pos}
 use Rattle.grouping.specs.Picking.{Picked, key_place}
 use Rattle.grouping.proofs.write_key.Given as goal
 

@@ -1,6 +1,6 @@
 -- `node_checks::absent` tests that each column is another: a walk over columns of one byte.
 use Rattle.node_bytes.specs.Rows.{walk_starts, walk_passes, walk_fails, walk_ends}
-use borrow.Author.Tests.{eq-eqb, ne_eqb}
+use Rattle.std.proofs.Common.{eq-eqb, ne_eqb}
 use Rattle.node_checks.specs.Columns.{other_at, absent_at}
 use Rattle.node_checks.proofs.absent.Goals as goal
 

@@ -1,5 +1,5 @@
 -- `node_checks::aggregate_kind` computes the definition by its test.
-use borrow.Author.Tests.{eq-eqb, ne_eqb}
+use Rattle.std.proofs.Common.{eq-eqb, ne_eqb}
 use Rattle.node_checks.specs.Weights.{aggregate_kind_at}
 use Rattle.node_checks.proofs.aggregate_kind.Goals as goal
 

@@ -1,6 +1,5 @@
 -- `node_checks::aggregate_kinds` writes the kinds behind those so far: after i turns the next i are those of the definition.
-use Prim.Native.Nat.{◌+◌}
-use native.Mathlib.Omega.{arith}
+use Rattle.std.proofs.Common.{◌+◌, arith}
 use Rattle.node_checks.specs.Weights.{aggregate_kinds_at}
 use Rattle.node_checks.specs.Steps.{listed-none, listed_more, listed-ends}
 use Rattle.node_checks.proofs.aggregate_kinds.Goals as goal

@@ -1,7 +1,5 @@
 -- `node_checks::aggregate_kinds` writes the kinds behind those so far: after i turns the next i are those of the definition.
-use mathlib.Core.Path.{◌≡◌}
-use Prim.Native.Nat.{◌+◌, ◌*◌, ◌-◌, ◌≤◌}
-use lib.ListN.{take}
+use Rattle.std.proofs.Common.{◌≡◌, ◌+◌, ◌*◌, ◌-◌, ◌≤◌, take}
 use Rattle.node_checks.specs.Weights.{aggregate_kind_at}
 use Rattle.node_checks.specs.Steps.{Listed}
 use Rattle.node_checks.proofs.aggregate_kinds.Given as goal

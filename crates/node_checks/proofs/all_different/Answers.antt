@@ -1,6 +1,5 @@
 -- `node_checks::all_different` asks of each column whether it is absent from those behind it: what is left to ask is what the definition asks.
-use mathlib.Core.Path.{refl, sym, ◌∙◌}
-use native.Mathlib.Omega.{arith}
+use Rattle.std.proofs.Common.{refl, sym, ◌∙◌, arith}
 use Rattle.node_checks.specs.Steps.{distinct_none, distinct_fails, distinct-passes}
 use Rattle.node_checks.proofs.all_different.Goals as goal
 

@@ -1,6 +1,5 @@
 -- `node_checks::all_different` asks of each column whether it is absent from those behind it: what is left to ask is what the definition asks.
-use mathlib.Core.Path.{◌≡◌}
-use Prim.Native.Nat.{◌+◌}
+use Rattle.std.proofs.Common.{◌≡◌, ◌+◌}
 use Rattle.node_checks.specs.Columns.{distinct_at}
 use Rattle.node_checks.proofs.all_different.Given as goal
 

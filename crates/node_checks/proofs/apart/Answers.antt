@@ -1,5 +1,5 @@
 -- `node_checks::apart` computes the definition by its two tests.
-use borrow.Author.Tests.{lt-ltb, le-ltb}
+use Rattle.std.proofs.Common.{lt-ltb, le-ltb}
 use Rattle.meaning.specs.Check.{apart}
 use Rattle.node_checks.specs.Tests.{leb-not-ltb}
 use Rattle.node_checks.proofs.apart.Goals as goal

@@ -1,9 +1,5 @@
 -- `node_checks::append_kinds` writes the right kinds behind the left ones: after i turns i of them stand there.
-use mathlib.Core.Path.{ap, ◌∙◌}
-use mathlib.Core.List.{List, ◌++◌}
-use Prim.Native.Nat.{ℕ, ◌+◌}
-use native.Mathlib.Omega.{arith}
-use lib.ListN.{take}
+use Rattle.std.proofs.Common.{ap, ◌∙◌, List, ◌++◌, ℕ, ◌+◌, arith, take}
 use Rattle.node_checks.specs.Steps.{listed-none, listed_more, listed-ends, list_take}
 use Rattle.node_checks.proofs.append_kinds.Goals as goal
 

@@ -1,6 +1,5 @@
 -- `node_checks::append_kinds` writes the right kinds behind the left ones: after i turns i of them stand there.
-use Prim.Native.Nat.{ℕ, ◌+◌, ◌-◌, ◌≤◌}
-use lib.ListN.{length, get_or, take}
+use Rattle.std.proofs.Common.{ℕ, ◌+◌, ◌-◌, ◌≤◌, length, get_or, take}
 use Rattle.node_checks.specs.Steps.{Listed}
 use Rattle.node_checks.proofs.append_kinds.Given as goal
 

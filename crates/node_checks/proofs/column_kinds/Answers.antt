@@ -1,7 +1,5 @@
 -- `node_checks::column_kinds` writes the kinds from the front: after i turns the first i are those of the definition.
-use mathlib.Core.Path.{refl}
-use Prim.Native.Nat.{◌+◌}
-use native.Mathlib.Omega.{arith}
+use Rattle.std.proofs.Common.{refl, ◌+◌, arith}
 use Rattle.node_checks.specs.Weights.{column_kind_at, column_kinds_at}
 use Rattle.node_checks.specs.Steps.{listed-none, listed_more, listed-ends}
 use Rattle.node_checks.proofs.column_kinds.Goals as goal

@@ -1,6 +1,5 @@
 -- `node_checks::column_kinds` writes the kinds from the front: after i turns the first i are those of the definition.
-use mathlib.Core.List.{[]}
-use Prim.Native.Nat.{◌-◌, ◌≤◌}
+use Rattle.std.proofs.Common.{[], ◌-◌, ◌≤◌}
 use Rattle.node_checks.specs.Weights.{column_kind_at}
 use Rattle.node_checks.specs.Steps.{Listed}
 use Rattle.node_checks.proofs.column_kinds.Given as goal

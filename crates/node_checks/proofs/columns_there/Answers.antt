@@ -1,5 +1,5 @@
 -- `node_checks::columns_there` tests each column: a walk over columns of one byte.
-use borrow.Author.Tests.{le-ltb, lt-ltb}
+use Rattle.std.proofs.Common.{le-ltb, lt-ltb}
 use Rattle.node_bytes.specs.Rows.{walk_starts, walk_passes, walk_fails, walk_ends}
 use Rattle.node_checks.specs.Columns.{column_at, columns_at}
 use Rattle.node_checks.proofs.columns_there.Goals as goal

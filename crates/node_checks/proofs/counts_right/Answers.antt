@@ -1,8 +1,7 @@
 -- `node_checks::counts_right` computes the definition by its tests.
+use Rattle.std.proofs.Common.{arith, eqb, lt-ltb, le-ltb, eq-eqb, ne_eqb}
 use mathlib.Core.Bool.{or-true}
-use native.Mathlib.Omega.{arith}
-use lib.Dec.{eqb}
-use borrow.Author.Tests.{lt-ltb, le-ltb, eq-eqb, ne_eqb, not-true, not-false}
+use borrow.Author.Tests.{not-true, not-false}
 use Rattle.node_checks.specs.Numbers.{counts_right}
 use Rattle.node_checks.proofs.counts_right.Goals as goal
 use Rattle.node_checks.proofs.counts_right.Goals.{else-kind-eq3-via-then-kind-eq3+else-lefts-l, else-kind-eq3-via-else-kind-eq3}

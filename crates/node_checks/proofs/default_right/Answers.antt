@@ -1,5 +1,5 @@
 -- `node_checks::default_right` computes the definition by its tests.
-use borrow.Author.Tests.{eq-eqb, ne_eqb}
+use Rattle.std.proofs.Common.{eq-eqb, ne_eqb}
 use Rattle.node_checks.specs.Weights.{default_at}
 use Rattle.node_checks.proofs.default_right.Goals as goal
 

@@ -1,8 +1,5 @@
 -- `node_checks::defaults_right` asks of each default whether it is right for its kind: what is left to ask is what the definition asks.
-use mathlib.Core.Path.{◌≡◌, sym, ap, ◌∙◌}
-use Prim.Native.Nat.{◌+◌, ◌-◌}
-use native.Mathlib.Omega.{arith}
-use lib.ListN.{get_or}
+use Rattle.std.proofs.Common.{◌≡◌, sym, ap, ◌∙◌, ◌+◌, ◌-◌, arith, get_or}
 use Rattle.node_checks.specs.Weights.{default_at}
 use Rattle.node_checks.specs.Steps.{defaults-none, defaults_fails, defaults-passes}
 use Rattle.node_checks.proofs.defaults_right.Goals as goal

@@ -1,6 +1,5 @@
 -- `node_checks::defaults_right` asks of each default whether it is right for its kind: what is left to ask is what the definition asks.
-use mathlib.Core.Path.{◌≡◌}
-use Prim.Native.Nat.{◌+◌, ◌*◌, ◌-◌, ◌≤◌}
+use Rattle.std.proofs.Common.{◌≡◌, ◌+◌, ◌*◌, ◌-◌, ◌≤◌}
 use Rattle.node_checks.specs.Weights.{defaults_at}
 use Rattle.node_checks.proofs.defaults_right.Given as goal
 

@@ -1,7 +1,6 @@
 -- `node_checks::group_columns` asks of the grouping columns whether they are there and all different, and then of the columns that aggregates read.
-use mathlib.Core.Path.{sym, ◌∙◌}
+use Rattle.std.proofs.Common.{sym, ◌∙◌, arith}
 use mathlib.Core.Bool.{and-false}
-use native.Mathlib.Omega.{arith}
 use Rattle.node_bytes.specs.Nodes.{group_size}
 use Rattle.node_checks.specs.Numbers.{group_columns_at}
 use Rattle.node_checks.proofs.group_columns.Goals as goal

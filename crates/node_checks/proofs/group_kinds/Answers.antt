@@ -1,7 +1,5 @@
 -- `node_checks::group_kinds` writes the kinds of the aggregates behind those of the grouping columns where they are at most 16, and else owes nothing.
-use mathlib.Core.Path.{◌∙◌}
-use Prim.Native.Nat.{ℕ}
-use native.Mathlib.Omega.{arith}
+use Rattle.std.proofs.Common.{◌∙◌, ℕ, arith}
 use Rattle.node_bytes.specs.Nodes.{group_size}
 use Rattle.node_checks.proofs.group_kinds.Goals as goal
 use Rattle.node_checks.proofs.group_kinds.Goals.{After-shared_slice_known-3-1}

@@ -1,5 +1,5 @@
 -- `node_checks::group_weights` asks of the aggregates, which stand behind the grouping columns.
-use native.Mathlib.Omega.{arith}
+use Rattle.std.proofs.Common.{arith}
 use Rattle.node_bytes.specs.Nodes.{group_size}
 use Rattle.node_checks.specs.Numbers.{group_weights_at}
 use Rattle.node_checks.proofs.group_weights.Goals as goal

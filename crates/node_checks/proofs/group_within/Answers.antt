@@ -1,5 +1,5 @@
 -- `node_checks::group_within` asks `up_to` of the columns.
-use native.Mathlib.Omega.{arith}
+use Rattle.std.proofs.Common.{arith}
 use Rattle.meaning.specs.Limits.{most_columns}
 use Rattle.node_bytes.specs.Nodes.{group_size}
 use Rattle.node_checks.specs.Numbers.{group_within_at}

@@ -1,6 +1,5 @@
 -- `node_checks::join_columns` asks of the pairs, and then of the counts of defaults.
-use mathlib.Core.Path.{sym, ◌∙◌}
-use native.Mathlib.Omega.{arith}
+use Rattle.std.proofs.Common.{sym, ◌∙◌, arith}
 use Rattle.node_bytes.specs.Nodes.{join_size}
 use Rattle.node_checks.specs.Numbers.{join_columns_at}
 use Rattle.node_checks.proofs.join_columns.Goals as goal

@@ -1,7 +1,5 @@
 -- `node_checks::join_weights` asks of the left defaults, and then of the right ones behind them.
-use mathlib.Core.Path.{sym, ◌∙◌}
-use Prim.Native.Nat.{ℕ}
-use native.Mathlib.Omega.{arith}
+use Rattle.std.proofs.Common.{sym, ◌∙◌, ℕ, arith}
 use Rattle.node_bytes.specs.Nodes.{join_size}
 use Rattle.node_checks.specs.Numbers.{join_weights_at}
 use Rattle.node_checks.proofs.join_weights.Goals as goal

@@ -1,6 +1,5 @@
 -- `node_checks::join_within` asks `up_to` of the columns, and then of the pairs.
-use mathlib.Core.Path.{sym, ◌∙◌}
-use native.Mathlib.Omega.{arith}
+use Rattle.std.proofs.Common.{sym, ◌∙◌, arith}
 use Rattle.meaning.specs.Limits.{most_columns, most_pairs}
 use Rattle.node_bytes.specs.Nodes.{join_size}
 use Rattle.node_checks.specs.Numbers.{join_within_at}

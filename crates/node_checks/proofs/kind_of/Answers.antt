@@ -1,6 +1,5 @@
 -- `node_checks::kind_of` reads the kind inside the array, and beyond its end the list of kinds reads 0.
-use mathlib.Core.Path.{sym}
-use native.Mathlib.Omega.{arith}
+use Rattle.std.proofs.Common.{sym, arith}
 use lib.ListN.{get_or-eq_default}
 use Rattle.node_checks.proofs.kind_of.Goals as goal
 

@@ -1,6 +1,6 @@
 -- `node_checks::pairs_there` tests both columns of each pair: a walk over pairs of two bytes.
 use Rattle.node_bytes.specs.Rows.{walk_starts, walk_passes, walk_fails, walk_ends}
-use borrow.Author.Tests.{le-ltb, lt-ltb}
+use Rattle.std.proofs.Common.{le-ltb, lt-ltb}
 use Rattle.node_checks.specs.Columns.{pair_at, pairs_at}
 use Rattle.node_checks.proofs.pairs_there.Goals as goal
 

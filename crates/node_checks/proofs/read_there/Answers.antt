@@ -1,5 +1,5 @@
 -- `node_checks::read_there` tests as many columns as the aggregate reads.
-use borrow.Author.Tests.{lt-ltb, le-ltb, ne_eqb}
+use Rattle.std.proofs.Common.{lt-ltb, le-ltb, ne_eqb}
 use Rattle.node_checks.specs.Columns.{read_at}
 use Rattle.node_checks.proofs.read_there.Goals as goal
 

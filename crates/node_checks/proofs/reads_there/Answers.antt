@@ -1,6 +1,5 @@
 -- `node_checks::reads_there` tests what each aggregate reads: a walk over aggregates of three bytes.
-use mathlib.Core.Path.{sym, ◌∙◌}
-use native.Mathlib.Omega.{arith}
+use Rattle.std.proofs.Common.{sym, ◌∙◌, arith}
 use Rattle.node_bytes.specs.Rows.{walk_starts, walk_passes, walk_fails, walk_ends}
 use Rattle.node_checks.specs.Columns.{reads_at}
 use Rattle.node_checks.proofs.reads_there.Goals as goal

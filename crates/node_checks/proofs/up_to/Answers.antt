@@ -1,6 +1,6 @@
 -- `node_checks::up_to` computes the definition by its test.
-use borrow.Author.Tests.{lt-leb, le-leb}
-use native.Mathlib.Omega.{arith}
+use Rattle.std.proofs.Common.{le-leb, arith}
+use borrow.Author.Tests.{lt-leb}
 use Rattle.meaning.specs.Limits.{up_to}
 use Rattle.node_checks.proofs.up_to.Goals as goal
 

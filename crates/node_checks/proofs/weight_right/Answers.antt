@@ -1,6 +1,5 @@
 -- `node_checks::weight_right` computes the definition by its tests.
-use native.Mathlib.Omega.{arith}
-use borrow.Author.Tests.{lt-ltb, le-ltb, eq-eqb, ne_eqb}
+use Rattle.std.proofs.Common.{arith, lt-ltb, le-ltb, eq-eqb, ne_eqb}
 use Rattle.node_checks.specs.Weights.{weight_at}
 use Rattle.node_checks.proofs.weight_right.Goals as goal
 

@@ -1,6 +1,5 @@
 -- `node_checks::weights_right` tests the weight of each aggregate: a walk over aggregates of three bytes.
-use mathlib.Core.Path.{sym, ◌∙◌}
-use native.Mathlib.Omega.{arith}
+use Rattle.std.proofs.Common.{sym, ◌∙◌, arith}
 use Rattle.node_bytes.specs.Rows.{walk_starts, walk_passes, walk_fails, walk_ends}
 use Rattle.node_checks.specs.Weights.{weights_at}
 use Rattle.node_checks.proofs.weights_right.Goals as goal

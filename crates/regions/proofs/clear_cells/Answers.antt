@@ -1,6 +1,5 @@
 -- `regions::clear_cells` clears from the front on, up to the n-th.
-use mathlib.Core.Path.{◌≡◌}
-use native.Mathlib.Omega.{arith}
+use Rattle.std.proofs.Common.{◌≡◌, arith}
 use Rattle.regions.specs.Clearing.{cleared-none, cleared_more}
 use Rattle.regions.proofs.clear_cells.Goals as goal
 

@@ -1,6 +1,5 @@
 -- `regions::clear_cells` clears from the front on, up to the n-th.
-use Prim.Native.Nat.{◌-◌, ◌≤◌}
-use lib.IntN.{pos}
+use Rattle.std.proofs.Common.{◌-◌, ◌≤◌, pos}
 use Rattle.regions.specs.Clearing.{Cleared}
 use Rattle.regions.proofs.clear_cells.Given as goal
 

@@ -1,5 +1,5 @@
 -- `regions::clear_marks` clears from the front on, up to the n-th.
-use Prim.Native.Nat.{◌-◌, ◌≤◌}
+use Rattle.std.proofs.Common.{◌-◌, ◌≤◌}
 use Rattle.regions.specs.Clearing.{Cleared}
 use Rattle.regions.proofs.clear_marks.Given as goal
 

@@ -1,11 +1,5 @@
 -- `regions::copy_into` copies cell by cell: after i turns the first i cells and marks of the source stand at their new place.
-use mathlib.Core.Path.{◌≡◌, refl}
-use Prim.Native.Nat.{◌+◌, ◌<◌}
-use native.Mathlib.Omega.{arith}
-use lib.ListN.{get_or, length}
-use lib.IntN.{pos}
-use mir.Syntax.{w64}
-use mir.Facts.{to_z-of_z}
+use Rattle.std.proofs.Common.{◌≡◌, refl, ◌+◌, ◌<◌, arith, get_or, length, pos, w64, to_z-of_z}
 use Rattle.regions.specs.Copying.{copied_none, copied_more}
 use Rattle.regions.proofs.copy_into.Goals as goal
 

@@ -1,6 +1,5 @@
 -- `regions::copy_within` copies cell by cell: after i turns the first i cells and marks stand at their new place.
-use Prim.Native.Nat.{◌-◌, ◌≤◌}
-use lib.IntN.{pos}
+use Rattle.std.proofs.Common.{◌-◌, ◌≤◌, pos}
 use Rattle.regions.specs.Copying.{Copied}
 use Rattle.regions.proofs.copy_within.Given as goal
 

@@ -1,11 +1,5 @@
 -- `running::amount` gives the amount of each aggregate; a product is small enough as the contract says.
-use borrow.Author.Tests.{ne_eqb}
-use mathlib.Core.Path.{◌≡◌, subst}
-use Prim.Native.Nat.{ℕ, ◌<◌, ◌^◌}
-use lib.IntN.{nat_abs, ◌*ℤ◌}
-use mir.Syntax.{w64}
-use mir.Val.{SFits}
-use mir.Facts.{to_z-of_z}
+use Rattle.std.proofs.Common.{ne_eqb, ◌≡◌, subst, ℕ, ◌<◌, ◌^◌, nat_abs, ◌*ℤ◌, w64, SFits, to_z-of_z}
 use Rattle.numbers.specs.Integers.{fits-size, mul_asked, mul_back}
 use Rattle.running.specs.States.{amount_of}
 use Rattle.running.proofs.amount.Goals as goal

@@ -1,13 +1,7 @@
 -- `running::combine` gives the first amount, the less, the greater or the sum; the sum is small enough as the contract says.
-use borrow.Author.Tests.{ne_eqb, not-true, not-false}
-use mathlib.Core.Path.{◌≡◌}
-use mathlib.Core.Bool.{true, false}
+use Rattle.std.proofs.Common.{ne_eqb, ◌≡◌, true, false, arith, ◌+ℤ◌, w64, SFits, to_z-of_z}
+use borrow.Author.Tests.{not-true, not-false}
 use lib.Signed.{lt_z}
-use native.Mathlib.Omega.{arith}
-use lib.IntN.{◌+ℤ◌}
-use mir.Syntax.{w64}
-use mir.Val.{SFits}
-use mir.Facts.{to_z-of_z}
 use Rattle.numbers.specs.Integers.{abs_add, fits-size, add_asked, add_back}
 use Rattle.running.specs.States.{combine_of}
 use Rattle.running.proofs.combine.Goals as goal

@@ -1,5 +1,5 @@
 -- `running::distinct` says true for the two numbers alone.
-use borrow.Author.Tests.{ne_eqb}
+use Rattle.std.proofs.Common.{ne_eqb}
 use Rattle.running.specs.States.{distinct_of}
 use Rattle.running.proofs.distinct.Goals as goal
 

@@ -1,5 +1,5 @@
 -- `running::empty_mark` is what the rule table says.
-use borrow.Author.Tests.{eq-eqb, ne_eqb}
+use Rattle.std.proofs.Common.{eq-eqb, ne_eqb}
 use Rattle.running.specs.States.{empty_mark_of}
 use Rattle.running.proofs.empty_mark.Goals as goal
 

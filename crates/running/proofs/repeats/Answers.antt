@@ -1,8 +1,6 @@
 -- `running::repeats` compares v with the last one, where there is one, in a distinct aggregate alone.
+use Rattle.std.proofs.Common.{ap, w64, of_z}
 use borrow.Author.Tests.{not-true, not-false}
-use mathlib.Core.Path.{ap}
-use mir.Syntax.{w64}
-use mir.Val.{of_z}
 use Rattle.numbers.specs.Integers.{of_z_inj}
 use Rattle.running.specs.States.{repeats_of}
 use Rattle.numbers.specs.Same.{eq_eq_z, ne_eq_z}

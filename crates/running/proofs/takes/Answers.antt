@@ -1,6 +1,5 @@
 -- `running::takes` asks for the marks that the aggregate reads.
-use borrow.Author.Tests.{eq-eqb, ne_eqb, lt-ltb, le-ltb}
-use native.Mathlib.Omega.{arith}
+use Rattle.std.proofs.Common.{eq-eqb, ne_eqb, lt-ltb, le-ltb, arith}
 use Rattle.running.specs.States.{takes_of}
 use Rattle.running.proofs.takes.Goals as goal
 

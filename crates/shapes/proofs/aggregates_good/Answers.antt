@@ -1,5 +1,5 @@
 -- `shapes::aggregates_good` tests each aggregate: a walk over things of three bytes.
-use mathlib.Core.Path.{sym, ◌∙◌}
+use Rattle.std.proofs.Common.{sym, ◌∙◌}
 use Rattle.node_bytes.specs.Nodes.{aggregates_good}
 use Rattle.node_bytes.specs.Rows.{walk_starts, walk_passes, walk_fails, walk_ends}
 use Rattle.shapes.proofs.aggregates_good.Goals as goal

@@ -1,5 +1,5 @@
 -- `shapes::cells_good` tests each default: a walk over things of nine bytes.
-use mathlib.Core.Path.{sym, ◌∙◌}
+use Rattle.std.proofs.Common.{sym, ◌∙◌}
 use Rattle.node_bytes.specs.Nodes.{cells_good}
 use Rattle.node_bytes.specs.Rows.{walk_starts, walk_passes, walk_fails, walk_ends}
 use Rattle.shapes.proofs.cells_good.Goals as goal

@@ -1,7 +1,5 @@
 -- `shapes::group_size` measures a grouping: too little room gives 0, else its aggregates decide.
-use mathlib.Core.Path.{sym, ◌∙◌}
-use Prim.Native.Nat.{ℕ}
-use native.Mathlib.Omega.{arith}
+use Rattle.std.proofs.Common.{sym, ◌∙◌, ℕ, arith}
 use Rattle.node_bytes.specs.Nodes.{group_size, group_good}
 use Rattle.shapes.specs.Sizes.{size-outside, size_wrong, size-right}
 use Rattle.shapes.proofs.group_size.Goals as goal

@@ -1,8 +1,5 @@
 -- `shapes::join_size` measures a join: too little room or defaults of a side that has none give 0, else the defaults decide.
-use mathlib.Core.Path.{sym, ◌∙◌}
-use mathlib.Core.Logic.{inl, inr}
-use Prim.Native.Nat.{ℕ}
-use native.Mathlib.Omega.{arith}
+use Rattle.std.proofs.Common.{sym, ◌∙◌, inl, inr, ℕ, arith}
 use Rattle.node_bytes.specs.Nodes.{join_size}
 use Rattle.shapes.specs.Sizes.{lefts_wrong, rights_wrong, defaults_decide, size-outside, size_wrong, size-right}
 use Rattle.shapes.proofs.join_size.Goals as goal

@@ -1,7 +1,6 @@
 -- `shapes::node_size` measures a node as the definition does: its first byte says which kind of node it is.
-use mathlib.Core.Path.{refl}
-use native.Mathlib.Omega.{arith}
-use borrow.Author.Tests.{le-leb, lt-leb, eq-eqb, ne_eqb}
+use Rattle.std.proofs.Common.{refl, arith, le-leb, eq-eqb, ne_eqb}
+use borrow.Author.Tests.{lt-leb}
 use Rattle.node_bytes.specs.Nodes.{node_size}
 use Rattle.shapes.specs.Sizes.{size-outside, size-right}
 use Rattle.shapes.proofs.node_size.Goals as goal

@@ -1,8 +1,5 @@
 -- `shapes::shape_of` scans the string as the definition does: at each turn the scan of what is left gives the shape of the whole.
-use mathlib.Core.Path.{sym, ◌∙◌}
-use Prim.Native.Nat.{◌-◌, ◌≤◌}
-use native.Mathlib.Omega.{arith}
-use lib.ListN.{length}
+use Rattle.std.proofs.Common.{sym, ◌∙◌, ◌-◌, ◌≤◌, arith, length}
 use Rattle.shapes.specs.Sizes.{node-fits}
 use Rattle.shapes.specs.Scanning.{scanned_starts, scanned_bad, scanned_few, scanned_step, table_counts, other-counts}
 use Rattle.shapes.proofs.shape_of.Goals as goal

@@ -1,6 +1,5 @@
 -- `shapes::shape_of` scans the string as the definition does: at each turn the scan of what is left gives the shape of the whole.
-use Prim.Native.Nat.{◌-◌}
-use lib.ListN.{length}
+use Rattle.std.proofs.Common.{◌-◌, length}
 use Rattle.shapes.specs.Scanning.{Scanned}
 use Rattle.shapes.proofs.shape_of.Given as goal
 

@@ -1,7 +1,5 @@
 -- `shapes::starts` notes where each node starts: the loop's place is the start of the node before the k-th, and moves on by its size.
-use mathlib.Core.Path.{refl, ap, ◌∙◌}
-use Prim.Native.Nat.{ℕ, ◌+◌}
-use native.Mathlib.Omega.{arith}
+use Rattle.std.proofs.Common.{refl, ap, ◌∙◌, ℕ, ◌+◌, arith}
 use Rattle.shapes.specs.Sizes.{node-fits}
 use Rattle.shapes.specs.Scanning.{started_starts, started_step, stays}
 use Rattle.shapes.proofs.starts.Goals as goal

@@ -1,5 +1,5 @@
 -- `shapes::starts` notes where each node starts: the loop's place is the start of the node before the k-th, and moves on by its size.
-use Prim.Native.Nat.{◌-◌}
+use Rattle.std.proofs.Common.{◌-◌}
 use Rattle.shapes.specs.Scanning.{Started}
 use Rattle.shapes.proofs.starts.Given as goal
 

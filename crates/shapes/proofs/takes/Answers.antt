@@ -1,5 +1,5 @@
 -- `shapes::takes` gives the inputs that the definition gives: each test settles one of the definition's.
-use borrow.Author.Tests.{eq-eqb, ne_eqb}
+use Rattle.std.proofs.Common.{eq-eqb, ne_eqb}
 use Rattle.node_bytes.specs.Nodes.{inputs}
 use Rattle.shapes.proofs.takes.Goals as goal
 

@@ -1,10 +1,5 @@
 -- `tables::cells_right` tests each cell: a walk over cells.
-use mathlib.Core.Path.{◌≡◌, sym, ap, ◌∙◌}
-use native.Mathlib.Omega.{arith}
-use lib.ListN.{get_or}
-use lib.IntN.{ℤ, pos}
-use mir.Syntax.{w64}
-use mir.Facts.{to_z-of_z}
+use Rattle.std.proofs.Common.{◌≡◌, sym, ap, ◌∙◌, arith, get_or, ℤ, pos, w64, to_z-of_z}
 use Rattle.meaning.specs.Running.{cell_right}
 use Rattle.node_bytes.specs.Rows.{walk_starts, walk_passes, walk_fails, walk_ends}
 use Rattle.tables.specs.Places.{cell_right_at, cells-every}

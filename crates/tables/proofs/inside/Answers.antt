@@ -1,8 +1,7 @@
 -- `tables::inside` compares without a sum that could wrap.
+use Rattle.std.proofs.Common.{◌+◌, ◌<◌, ◌≤◌, arith, le-leb}
 use mathlib.Core.Bool.{and-false}
-use Prim.Native.Nat.{◌+◌, ◌<◌, ◌≤◌}
-use native.Mathlib.Omega.{arith}
-use borrow.Author.Tests.{le-leb, lt-leb}
+use borrow.Author.Tests.{lt-leb}
 use Rattle.tables.specs.Places.{inside_at, leb-room}
 use Rattle.tables.proofs.inside.Goals as goal
 

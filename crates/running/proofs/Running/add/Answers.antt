@@ -1,13 +1,6 @@
 -- `Running::add` leaves the state as it is, or combines its value with the row's amount.
-use borrow.Author.Rules.{rules}
+use Rattle.std.proofs.Common.{rules, arith, ◌≡◌, sym, ◌∙◌, true, ◌+◌, ◌<◌, ◌^◌, nat_abs, w64, to_z-of_z}
 use borrow.Author.Tests.{not-true, not-false}
-use native.Mathlib.Omega.{arith}
-use mathlib.Core.Path.{◌≡◌, sym, ◌∙◌}
-use mathlib.Core.Bool.{true}
-use Prim.Native.Nat.{◌+◌, ◌<◌, ◌^◌}
-use lib.IntN.{nat_abs}
-use mir.Syntax.{w64}
-use mir.Facts.{to_z-of_z}
 use Rattle.running.specs.States.{takes_of, amount_of}
 use Rattle.running.specs.Steps.{add_not-taken, add_repeated, add_taken, room-taken}
 use Rattle.running.proofs.Running.add.Goals as goal

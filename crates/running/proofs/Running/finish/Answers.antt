@@ -1,7 +1,5 @@
 -- `Running::finish` answers the value where there is one, else what the rule table says.
-use borrow.Author.Rules.{rules}
-use mir.Syntax.{w64}
-use mir.Facts.{to_z-of_z}
+use Rattle.std.proofs.Common.{rules, w64, to_z-of_z}
 use Rattle.running.specs.Steps.{finish_some, finish_none}
 use Rattle.running.proofs.Running.finish.Goals as goal
 

@@ -1,8 +1,6 @@
 -- `Running::merge` combines the two values where the other state has one; a distinct one stays as it is.
-use borrow.Author.Rules.{rules}
+use Rattle.std.proofs.Common.{rules, w64, to_z-of_z}
 use borrow.Author.Tests.{not-true, not-false}
-use mir.Syntax.{w64}
-use mir.Facts.{to_z-of_z}
 use Rattle.running.specs.Steps.{merge_distinct, merge_none, merge_some}
 use Rattle.running.proofs.Running.merge.Goals as goal
 

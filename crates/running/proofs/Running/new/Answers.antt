@@ -1,5 +1,5 @@
 -- `Running::new` is the state that has taken nothing.
-use mathlib.Core.Path.{refl}
+use Rattle.std.proofs.Common.{refl}
 use Rattle.running.specs.States.{start_of}
 use Rattle.running.proofs.Running.new.Goals as goal
 
