@@ -1,6 +1,5 @@
 -- `grouping::run_end` goes on while the rows have the first one's key.
 use Rattle.std.proofs.Common.{arith}
-use borrow.Author.Tests.{not-true, not-false}
 use Rattle.grouping.specs.Ending.{row-cells, alike-one, keys_in, alike-more, ends-here, ends_last}
 use Rattle.grouping.proofs.run_end.Goals as goal
 
@@ -28,12 +27,12 @@ same_key-requires c = keys_in c.requires c.loop-end.end c.loop-end.invariant c.l
 pub returns-then-not-same_key : goal.returns-then-not-same_key
 returns-then-not-same_key c =
     ends-here c.requires c.loop-end.end c.loop-end.invariant c.loop-end-test.true c.same_key.ensures
-    (not-true c.same_key.result c.if-not-same_key.true-raw)
+    c.if-not-same_key.true
 
 pub loop-end-preserved : goal.loop-end-preserved
 loop-end-preserved c =
     alike-more c.requires c.loop-end.end c.loop-end.invariant c.loop-end-test.true c.same_key.ensures
-    (not-false c.same_key.result c.if-not-same_key.false-raw)
+    c.if-not-same_key.false
 
 pub returns : goal.returns
 returns c = ends_last c.requires c.loop-end.end c.loop-end.invariant (omega arith)

@@ -1,13 +1,12 @@
 -- `grouping::run_state` feeds the rows as they are, or a sorted copy of the column.
 use Rattle.std.proofs.Common.{◌≡◌, true, arith}
-use borrow.Author.Tests.{not-true, not-false}
 use Rattle.grouping.specs.Single.{plain-room, plain_done, two_cells, column-starts, column-room, order-room, ordered_room, ordered_done}
 use Rattle.grouping.proofs.run_state.Goals as goal
 use Rattle.grouping.proofs.run_state.Goals.{Else-not-needs_order}
 
 -- the aggregate wants its values ascending
 ordered : (c : Else-not-needs_order) → c.needs_order.result ≡ true
-ordered c = not-false c.needs_order.result c.if-not-needs_order.false-raw
+ordered c = c.if-not-needs_order.false
 
 pub bounds-s-at : goal.bounds-s-at
 bounds-s-at c = omega (arith, c.requires.fits.inside)
@@ -26,7 +25,7 @@ bounds-s-at-then-not-needs_order c = omega (arith, c.requires.fits.inside)
 
 pub feed-requires : goal.feed-requires
 feed-requires c =
-    plain-room c.requires c.needs_order.ensures (not-true c.needs_order.result c.if-not-needs_order.true-raw)
+    plain-room c.requires c.needs_order.ensures c.if-not-needs_order.true
 
 pub returns-then-not-needs_order : goal.returns-then-not-needs_order
 returns-then-not-needs_order c = plain_done c.requires c.feed.ensures

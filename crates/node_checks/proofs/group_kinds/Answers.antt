@@ -1,5 +1,5 @@
 -- `node_checks::group_kinds` writes the kinds of the aggregates behind those of the grouping columns where they are at most 16, and else owes nothing.
-use Rattle.std.proofs.Common.{◌∙◌, ℕ, arith}
+use Rattle.std.proofs.Common.{◌∙◌, arith}
 use Rattle.node_bytes.specs.Nodes.{group_size}
 use Rattle.node_checks.proofs.group_kinds.Goals as goal
 use Rattle.node_checks.proofs.group_kinds.Goals.{After-shared_slice_known-3-1}
@@ -11,10 +11,6 @@ bounds-s-at c = omega arith
 pub bounds-s-at-2 : goal.bounds-s-at-2
 unfolding group_size
 bounds-s-at-2 c = omega arith
-
--- the node's place, seen from where its last count is read
-abbrev place : After-shared_slice_known-3-1 → ℕ
-place c = c.args.at
 
 pub returns-then-columns-aggregates-gt16 : goal.returns-then-columns-aggregates-gt16
 returns-then-columns-aggregates-gt16 c = λ few. absurd (omega arith)

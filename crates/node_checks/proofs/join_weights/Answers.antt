@@ -1,5 +1,5 @@
 -- `node_checks::join_weights` asks of the left defaults, and then of the right ones behind them.
-use Rattle.std.proofs.Common.{sym, ◌∙◌, ℕ, arith}
+use Rattle.std.proofs.Common.{sym, ◌∙◌, arith}
 use Rattle.node_bytes.specs.Nodes.{join_size}
 use Rattle.node_checks.specs.Numbers.{join_weights_at}
 use Rattle.node_checks.proofs.join_weights.Goals as goal
@@ -16,10 +16,6 @@ bounds-s-at-2 c = omega arith
 pub bounds-s-at-3 : goal.bounds-s-at-3
 unfolding join_size
 bounds-s-at-3 c = omega arith
-
--- the node's place, seen from where its count of pairs is read
-abbrev place : After-shared_slice_known-4-1 → ℕ
-place c = c.args.at
 
 pub overflow_add-from-3 : goal.overflow_add-from-3
 unfolding join_size

@@ -1,6 +1,5 @@
 -- `running::repeats` compares v with the last one, where there is one, in a distinct aggregate alone.
 use Rattle.std.proofs.Common.{ap, w64, of_z}
-use borrow.Author.Tests.{not-true, not-false}
 use Rattle.numbers.specs.Integers.{of_z_inj}
 use Rattle.running.specs.States.{repeats_of}
 use Rattle.numbers.specs.Same.{eq_eq_z, ne_eq_z}
@@ -8,15 +7,15 @@ use Rattle.running.proofs.repeats.Goals as goal
 
 pub returns-then-not-some : goal.returns-then-not-some
 unfolding repeats_of
-returns-then-not-some c = rw (not-true c.args.some c.if-not-some.true-raw)
+returns-then-not-some c = rw c.if-not-some.true
 
 pub returns-then-last-v : goal.returns-then-last-v
 unfolding repeats_of
 returns-then-last-v c =
-    rw (not-false c.args.some c.if-not-some.false-raw, ne_eq_z c.args.last c.args.v (λ e. c.if-last-v.true (ap (of_z w64) e)))
+    rw (c.if-not-some.false, ne_eq_z c.args.last c.args.v (λ e. c.if-last-v.true (ap (of_z w64) e)))
 
 pub returns : goal.returns
 unfolding repeats_of
 returns c =
     let e = of_z_inj c.args.last c.args.v c.ranges.last c.ranges.v c.if-last-v.false in
-    rw (not-false c.args.some c.if-not-some.false-raw, eq_eq_z c.args.last c.args.v e) c.distinct.ensures
+    rw (c.if-not-some.false, eq_eq_z c.args.last c.args.v e) c.distinct.ensures

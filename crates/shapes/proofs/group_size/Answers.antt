@@ -1,5 +1,5 @@
 -- `shapes::group_size` measures a grouping: too little room gives 0, else its aggregates decide.
-use Rattle.std.proofs.Common.{sym, ◌∙◌, ℕ, arith}
+use Rattle.std.proofs.Common.{sym, ◌∙◌, arith}
 use Rattle.node_bytes.specs.Nodes.{group_size, group_good}
 use Rattle.shapes.specs.Sizes.{size-outside, size_wrong, size-right}
 use Rattle.shapes.proofs.group_size.Goals as goal
@@ -8,10 +8,6 @@ use Rattle.shapes.proofs.group_size.Goals.{After-shared_slice_known-3-1}
 pub returns-then-room-lt3 : goal.returns-then-room-lt3
 unfolding group_size
 returns-then-room-lt3 c = size-outside _ _ _ _ (omega arith)
-
--- the node's place, seen from where its last count is read
-abbrev from : After-shared_slice_known-3-1 → ℕ
-from c = c.args.at
 
 pub returns-then-room-size : goal.returns-then-room-size
 unfolding group_size

@@ -1,5 +1,5 @@
 -- `shapes::join_size` measures a join: too little room or defaults of a side that has none give 0, else the defaults decide.
-use Rattle.std.proofs.Common.{sym, ◌∙◌, inl, inr, ℕ, arith}
+use Rattle.std.proofs.Common.{sym, ◌∙◌, inl, inr, arith}
 use Rattle.node_bytes.specs.Nodes.{join_size}
 use Rattle.shapes.specs.Sizes.{lefts_wrong, rights_wrong, defaults_decide, size-outside, size_wrong, size-right}
 use Rattle.shapes.proofs.join_size.Goals as goal
@@ -8,10 +8,6 @@ use Rattle.shapes.proofs.join_size.Goals.{After-shared_slice_known-5-1, else-kin
 pub returns-then-room-lt4 : goal.returns-then-room-lt4
 unfolding join_size
 returns-then-room-lt4 c = size-outside _ _ _ _ (omega arith)
-
--- the node's place, seen from where its last count is read
-abbrev from : After-shared_slice_known-5-1 → ℕ
-from c = c.args.at
 
 pub returns-then-room-size : goal.returns-then-room-size
 unfolding join_size

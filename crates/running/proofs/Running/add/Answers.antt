@@ -1,6 +1,5 @@
 -- `Running::add` leaves the state as it is, or combines its value with the row's amount.
 use Rattle.std.proofs.Common.{rules, arith, ◌≡◌, sym, ◌∙◌, true, ◌+◌, ◌<◌, ◌^◌, nat_abs, w64, to_z-of_z}
-use borrow.Author.Tests.{not-true, not-false}
 use Rattle.running.specs.States.{takes_of, amount_of}
 use Rattle.running.specs.Steps.{add_not-taken, add_repeated, add_taken, room-taken}
 use Rattle.running.proofs.Running.add.Goals as goal
@@ -8,7 +7,7 @@ use Rattle.running.proofs.Running.add.Goals.{After-amount-x, Else-not-takes}
 
 -- the row is taken
 taken : (c : Else-not-takes) → (takes_of c.args.self.name c.args.v_mark c.args.c_mark ≡ true)
-taken c = sym c.takes.ensures ∙ not-false c.takes.result c.if-not-takes.false-raw
+taken c = sym c.takes.ensures ∙ c.if-not-takes.false
 
 -- there is room for its amount
 room : (c : Else-not-takes)
@@ -25,7 +24,7 @@ amount c =
 pub returns-then-not-takes : goal.returns-then-not-takes
 returns-then-not-takes c =
     add_not-taken c.args.self c.args.v c.args.v_mark c.args.c c.args.c_mark
-    (sym c.takes.ensures ∙ not-true c.takes.result c.if-not-takes.true-raw)
+    (sym c.takes.ensures ∙ c.if-not-takes.true)
 
 pub returns-then-repeats : goal.returns-then-repeats
 returns-then-repeats c =
