@@ -254,7 +254,7 @@ room_for new area = cond (leb (length new) (length area)) (new_rewriting new are
 
 -- the answer for a side and a node, where there are such
 unfoldable pub rewrite_at : ℕ → Option Side → Option Plan → List ℕ → Plan → Rewritten
-rewrite_at place none node area p = refused_rewriting (first_of (check_number p ∷ 8 ∷ [])) area
+rewrite_at place none _ area p = refused_rewriting (first_of (check_number p ∷ 8 ∷ [])) area
 rewrite_at place (some s) none area p = refused_rewriting (first_of (check_number p ∷ 8 ∷ [])) area
 rewrite_at place (some s) (some node) area p =
     cond (eqb (first_of (check_number p ∷ push_number (nodes p) s node ∷ [])) 0)
