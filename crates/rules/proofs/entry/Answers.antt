@@ -1,7 +1,6 @@
 -- `rules::entry` gives the entry that the definition of the rule gives: one test, computed over the whole table.
-use Rattle.std.proofs.Common.{rules, Bool, List, [], ◌∷◌, ℕ, get_or, le-leb}
+use Rattle.std.proofs.Common.{rules, Bool, List, [], ◌∷◌, ℕ, get_or}
 use Rattle.std.proofs.Math.Dec.{eqb, eqb→eq}
-use borrow.Author.Tests.{lt-leb}
 use Rattle.meaning.specs.Arrangement.{name_number}
 use Rattle.meaning.specs.Rules.{rule}
 use Rattle.rules.specs.Below.{all_below, below}
