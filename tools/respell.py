@@ -4,7 +4,8 @@
 usage: python3 tools/respell.py     at the top of a checkout in which port.py has just run; it is run once, and rewrites files in place
 
 It goes by what the files of specs/ and the lemma files of proofs/ declare. Types and constructors that begin with a capital keep their
-spelling, and so does what code declares. A name stays where its new spelling stands somewhere already; each such name is printed.
+spelling, and so does what code declares. Where its new spelling stands somewhere already, a lemma ends in _lem; any other name that
+would meet one stays, and is printed.
 """
 
 import pathlib
@@ -22,7 +23,7 @@ RECORD = re.compile(r"(?m)^ *(?:pub )?record [^\n]*\n(?:^ +[^\n]*\n|^\n)+")
 LIBRARY = set(
     "append apart cond drop eqb get_or leb length lt_z ltb map max min nat_abs not omega quot replicate reverse set set_or sub suc take".split()
 )
-# What the lemmas are about where a name begins or ends with it.
+# What declares the repository's own names; the files of proofs/F/ are a function's.
 OWN_FILES = ("specs/*.antt", "proofs/*.antt")
 
 

@@ -1,20 +1,18 @@
 #![tactic(auto)]
 
-// The doors that C calls: include/firuvanta.h documents them.
+// The doors: the check and the run of a plan's bytes. `firuvanta_c` opens them to C under the same names.
 ghost use Rattle.meaning.specs.Check.{Checks};
 ghost use Rattle.meaning.specs.Running.{Runs, lent_of, areas_of, answered};
 
 // The check of a plan's bytes.
-#[unsafe(no_mangle)]
-pub extern "C" fn firuvanta_check(plan: &[u8]) -> u32
+pub fn firuvanta_check(plan: &[u8]) -> u32
     ensures { Checks plan.now result }
 {
     checks::check(plan)
 }
 
 // The run of a plan's bytes over lent tables.
-#[unsafe(no_mangle)]
-pub extern "C" fn firuvanta_run(
+pub fn firuvanta_run(
     plan: &[u8],
     tables: &[usize],
     cells: &[i64],
