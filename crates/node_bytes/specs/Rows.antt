@@ -2,6 +2,7 @@
 -- What is proved here once serves pairs, defaults, grouping columns and aggregates.
 use Rattle.std.specs.Prelude.{◌≡◌, Bool, true, false, ◌&&◌}
 use Rattle.std.proofs.Math.Path.{refl}
+use Rattle.std.specs.List.{list_all, range_with_len}
 use Rattle.std.proofs.Common.{sym, ap, ◌∙◌, add-one, List, [], ◌∷◌, ◌++◌, map, ℕ, zero, suc, ◌+◌, ◌*◌, ◌-◌, ◌<◌, ◌≤◌, arith}
 use Rattle.std.proofs.Math.ListN.{length, length-append}
 use Rattle.meaning.specs.Arrangement.{in_row}
@@ -69,6 +70,17 @@ module _ {f : ℕ → Bool} {k from n at left : ℕ} (w : Walk f k from n at lef
 
   pub walk_ends : left ≤ 0 → true ≡ every f k from n
   walk_ends h = sym (every-none f k at left h) ∙ w.rest
+
+-- the same test, as `all` makes it over the numbers of the things
+every_numbered : (f : ℕ → Bool) (k at a n : ℕ) → list_all (λ (i : ℕ). f (at + k * i)) (range_with_len a n) ≡ every f k (at + k * a) n
+unfolding every
+every_numbered f k at a zero = refl
+every_numbered f k at a (suc n) =
+    let q : at + k * (a + 1) ≡ at + k * a + k = omega arith in
+    ap (λ (b : Bool). f (at + k * a) && b) (every_numbered f k at (a + 1) n ∙ ap (λ (m : ℕ). every f k m n) q)
+
+pub every_of-range : (f : ℕ → Bool) (k at n : ℕ) → list_all (λ (i : ℕ). f (at + k * i)) (range_with_len 0 n) ≡ every f k at n
+every_of-range f k at n = let q : at + k * 0 ≡ at = omega arith in every_numbered f k at 0 n ∙ ap (λ (m : ℕ). every f k m n) q
 
 -- the law of a loop that builds: one thing more at the end
 pub list_more : {A : Type 0} (g : ℕ → A) (k at n : ℕ) → list_at g k at (n + 1) ≡ list_at g k at n ++ (g (at + k * n) ∷ [])

@@ -5,6 +5,14 @@ ghost use Rattle.std.specs.Prelude.{◌≤◌, length, pos};
 ghost use Rattle.regions.specs.Copying.{Room, CopiedWithin, RoomIn, CopiedIn};
 ghost use Rattle.regions.specs.Clearing.{Cleared};
 
+/// Rows that stand one behind the other in an area: where the first starts, how many there are, and how many cells each has.
+#[derive(Clone, Copy, Debug, PartialEq, Eq)]
+pub struct Rows {
+    pub at: usize,
+    pub count: usize,
+    pub width: usize,
+}
+
 // Copies n cells and their marks to another place of the same area; the places lie apart.
 pub fn copy_within(cells: &mut [i64], marks: &mut [u8], from: usize, to: usize, n: usize)
     requires { Room cells.old marks.old from to n }

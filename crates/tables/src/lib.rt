@@ -5,6 +5,14 @@ ghost use Rattle.std.specs.Prelude.{◌≡◌, ◌+◌, ◌*◌, ◌<◌, ◌≤
 ghost use Rattle.meaning.specs.Running.{cell_right, cells_right};
 ghost use Rattle.tables.specs.Places.{inside_at, table_right};
 
+/// What is lent to a run: the list of tables, three numbers a table, its width, rows and start, and the run of cells with a mark a cell.
+#[derive(Clone, Copy)]
+pub struct Lent<'a> {
+    pub tables: &'a [usize],
+    pub cells: &'a [i64],
+    pub marks: &'a [u8],
+}
+
 // Whether a cell and its mark are a table's: present and in range, or null with number 0.
 #[tactic(auto, using(crate::proofs::Tests::cell_tests))]
 fn cell_right(cell: i64, mark: u8) -> bool
