@@ -4,6 +4,8 @@ use Rattle.std.proofs.Common.{sym, ◌∙◌, SFits, of_z, mul-le-mul, arith, lt
 use Rattle.std.proofs.Math.Path.{ap}
 use Rattle.std.proofs.Math.Bool.{or-false}
 use Rattle.std.proofs.Math.ListN.{length, get_or}
+use Rattle.std.proofs.Math.Nat.{one-mul}
+use Rattle.std.specs.List.{list_all, range_with_len}
 use Rattle.std.specs.Int.Signed.{lt_z, le_z}
 use Rattle.std.specs.Int.{w64}
 use Rattle.std.proofs.Math.Decide.{dec_le}
@@ -12,7 +14,7 @@ use Rattle.meaning.specs.Limits.{most_rows, most_size}
 use Rattle.meaning.specs.Cells.{eq_z}
 use Rattle.meaning.specs.Running.{Place, places_in, lent_of, nowhere, cell_right, cells_right, place_right, inside_run}
 use Rattle.lists.specs.Tests.{and_left, and_right}
-use Rattle.node_bytes.specs.Rows.{every}
+use Rattle.node_bytes.specs.Rows.{every, every_of-range}
 
 -- the table whose three numbers stand at a place
 unfoldable pub place_at : List ℕ → ℕ → Place
@@ -73,6 +75,10 @@ pub cells-every : (cells : List ℤ) (marks : List ℕ) (at n : ℕ) → every (
 unfolding every cell_right_at cells_right
 cells-every cells marks at zero = refl
 cells-every cells marks at (suc n) = ap (λ (b : Bool). cell_right (get_or cells at (pos 0)) (get_or marks at 0) && b) (cells-every cells marks (at + 1) n)
+
+pub cells-range : (cells : List ℤ) (marks : List ℕ) (at n : ℕ) → list_all (λ (i : ℕ). cell_right (get_or cells (at + i) (pos 0)) (get_or marks (at + i) 0)) (range_with_len 0 n) ≡ cells_right cells marks at n
+unfolding cell_right_at
+cells-range cells marks at n = simp one-mul at (every_of-range (cell_right_at cells marks) 1 at n) ∙ cells-every cells marks at n
 
 -- ---- the table of a number
 

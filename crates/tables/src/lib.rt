@@ -35,16 +35,7 @@ fn cells_right(cells: &[i64], marks: &[u8], from: usize, n: usize) -> bool
     requires { (from + n ≤ length cells.now) × (from + n ≤ length marks.now) }
     ensures { result ≡ cells_right cells.now marks.now from n }
 {
-    let mut at = from;
-    let mut left = n;
-    while 0 < left {
-        if !cell_right(cells[at], marks[at]) {
-            return false;
-        }
-        at += 1;
-        left -= 1;
-    }
-    true
+    (0..n).all(|i| cell_right(cells[from + i], marks[from + i]))
 }
 
 // Whether n cells from a place on lie inside runs of these lengths.
@@ -63,19 +54,19 @@ fn inside(start: usize, n: usize, cells: usize, marks: usize) -> bool
     start <= marks - n
 }
 
-// Whether the table of a number is there, has this width and is right: `tables` has three numbers a table, width, rows and start.
+// Whether the table of a number is there, has this width and is right.
 #[tactic(auto, using(crate::proofs::Tests::table_tests))]
-pub fn table_right(tables: &[usize], cells: &[i64], marks: &[u8], name: usize, width: usize) -> bool
+pub fn table_right(lent: Lent, name: usize, width: usize) -> bool
     requires { width < 256 }
-    ensures { result ≡ table_right tables.now cells.now marks.now name width }
+    ensures { result ≡ table_right lent.entry.tables.now lent.entry.cells.now lent.entry.marks.now name width }
 {
-    if tables.len() / 3 <= name {
+    if lent.tables.len() / 3 <= name {
         return false;
     }
     let at = 3 * name;
-    let rows = tables[at + 1];
-    let start = tables[at + 2];
-    if tables[at] != width {
+    let rows = lent.tables[at + 1];
+    let start = lent.tables[at + 2];
+    if lent.tables[at] != width {
         return false;
     }
     if 1024 < rows {
@@ -84,8 +75,8 @@ pub fn table_right(tables: &[usize], cells: &[i64], marks: &[u8], name: usize, w
     if rows == 0 {
         return true;
     }
-    if !inside(start, width * rows, cells.len(), marks.len()) {
+    if !inside(start, width * rows, lent.cells.len(), lent.marks.len()) {
         return false;
     }
-    cells_right(cells, marks, start, width * rows)
+    cells_right(lent.cells, lent.marks, start, width * rows)
 }
