@@ -1,7 +1,7 @@
 #![tactic(auto)]
 
 // Rows in a lent area of cells and marks: copied where they are, cell by cell.
-ghost use Rattle.std.specs.Prelude.{◌≤◌, length, pos};
+ghost use Rattle.std.specs.Prelude.{◌≤◌, length};
 ghost use Rattle.regions.specs.Copying.{Room, CopiedWithin, RoomIn, CopiedIn};
 ghost use Rattle.regions.specs.Clearing.{Cleared};
 
@@ -51,26 +51,12 @@ pub fn copy_into(
     }
 }
 
-// The first n cells of an area become 0.
-pub fn clear_cells(cells: &mut [i64], n: usize)
-    requires { n ≤ length cells.old }
-    ensures { Cleared (pos 0) cells.old cells.new n }
+// The first n elements of an area become zero; `fill` would ask that a clone of `zero` not fail, which `Copy` does not say.
+pub fn clear<T: Copy>(area: &mut [T], zero: T, n: usize)
+    requires { n ≤ length area.old }
+    ensures { Cleared zero area.old area.new n }
 {
-    let mut i = 0;
-    while i < n {
-        cells[i] = 0;
-        i += 1;
-    }
-}
-
-// The first n marks of an area become 0.
-pub fn clear_marks(marks: &mut [u8], n: usize)
-    requires { n ≤ length marks.old }
-    ensures { Cleared 0 marks.old marks.new n }
-{
-    let mut i = 0;
-    while i < n {
-        marks[i] = 0;
-        i += 1;
+    for i in 0..n {
+        area[i] = zero;
     }
 }

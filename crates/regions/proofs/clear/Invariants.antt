@@ -1,0 +1,6 @@
+-- `regions::clear` clears from the front on, up to the n-th.
+use Rattle.regions.specs.Clearing.{Cleared}
+use Rattle.regions.proofs.clear.Given as goal
+
+abbrev pub invariant-loop-i : goal.invariant-loop-i
+invariant-loop-i g l = Cleared l.zero l.initial.area l.area l.i
