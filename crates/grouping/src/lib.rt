@@ -12,6 +12,8 @@ ghost use Rattle.grouping.specs.Writing.{CellRoom, CellDone, CellsRoom, CellsDon
 ghost use Rattle.grouping.specs.Ending.{EndRoom};
 ghost use Rattle.grouping.specs.Grouping.{GroupRoom, RunsDone, GroupDone};
 
+use regions::Rows;
+
 // Writes the listed columns of the row from a place on.
 fn write_key(
     s: &[u8],
@@ -53,23 +55,14 @@ fn copy_column(cells: &mut [i64], marks: &mut [u8], from: usize, n: usize, w: us
 }
 
 // The state of an aggregate that has taken the rows, by its number and its columns v and c.
-fn feed(
-    name: u8,
-    v: usize,
-    c: usize,
-    cells: &[i64],
-    marks: &[u8],
-    base: usize,
-    rows: usize,
-    w: usize,
-) -> running::Running
-    requires { FeedRoom name v c cells.now marks.now base rows w }
-    ensures { Fed name v c cells.now marks.now base rows w result }
+fn feed(name: u8, v: usize, c: usize, cells: &[i64], marks: &[u8], rows: Rows) -> running::Running
+    requires { FeedRoom name v c cells.now marks.now rows.at rows.count rows.width }
+    ensures { Fed name v c cells.now marks.now rows.at rows.count rows.width result }
 {
     let mut state = running::Running::new(name);
     let mut k = 0;
-    while k < rows {
-        let row = base + k * w;
+    while k < rows.count {
+        let row = rows.at + k * rows.width;
         let v_cell = cells[row + v];
         let v_mark = marks[row + v];
         let c_cell = cells[row + c];
@@ -97,23 +90,36 @@ fn run_state(
     at: usize,
     cells: &mut [i64],
     marks: &mut [u8],
-    base: usize,
-    rows: usize,
-    w: usize,
+    rows: Rows,
     scratch: usize,
 ) -> running::Running
-    requires { StateRoom s.now at cells.old marks.old base rows w scratch }
-    ensures { StateDone s.now at cells.old marks.old cells.new marks.new base rows w scratch result }
+    requires { StateRoom s.now at cells.old marks.old rows.at rows.count rows.width scratch }
+    ensures { StateDone s.now at cells.old marks.old cells.new marks.new rows.at rows.count rows.width scratch result }
 {
     let name = s[at];
     let v = s[at + 1] as usize;
-    if !needs_order(name, rows) {
+    if !needs_order(name, rows.count) {
         let c = s[at + 2] as usize;
-        return feed(name, v, c, cells, marks, base, rows, w);
+        return feed(name, v, c, cells, marks, rows);
     }
-    copy_column(cells, marks, base + v, rows, w, scratch);
-    sorting::sort_rows(s, at + 2, 1, cells, marks, scratch, rows, 1, scratch + rows);
-    feed(name, 0, 0, cells, marks, scratch, rows, 1)
+    copy_column(cells, marks, rows.at + v, rows.count, rows.width, scratch);
+    sorting::sort_rows(
+        s,
+        at + 2,
+        1,
+        cells,
+        marks,
+        scratch,
+        rows.count,
+        1,
+        scratch + rows.count,
+    );
+    let column = Rows {
+        at: scratch,
+        count: rows.count,
+        width: 1,
+    };
+    feed(name, 0, 0, cells, marks, column)
 }
 
 // Writes what an aggregate answers over a run's rows.
@@ -122,16 +128,14 @@ fn write_aggregate(
     at: usize,
     cells: &mut [i64],
     marks: &mut [u8],
-    base: usize,
-    rows: usize,
-    w: usize,
+    rows: Rows,
     to: usize,
     scratch: usize,
 )
-    requires { CellRoom s.now at cells.old marks.old base rows w to scratch }
-    ensures { CellDone s.now at cells.old marks.old cells.new marks.new base rows w to scratch }
+    requires { CellRoom s.now at cells.old marks.old rows.at rows.count rows.width to scratch }
+    ensures { CellDone s.now at cells.old marks.old cells.new marks.new rows.at rows.count rows.width to scratch }
 {
-    let state = run_state(s, at, cells, marks, base, rows, w, scratch);
+    let state = run_state(s, at, cells, marks, rows, scratch);
     let done = state.finish();
     let cell = done.cell;
     let mark = done.mark;
@@ -146,39 +150,28 @@ fn write_aggregates(
     n: usize,
     cells: &mut [i64],
     marks: &mut [u8],
-    base: usize,
-    rows: usize,
-    w: usize,
+    rows: Rows,
     to: usize,
     scratch: usize,
 )
-    requires { CellsRoom s.now at n cells.old marks.old base rows w to scratch }
-    ensures { CellsDone s.now at n cells.old marks.old cells.new marks.new base rows w to scratch }
+    requires { CellsRoom s.now at n cells.old marks.old rows.at rows.count rows.width to scratch }
+    ensures { CellsDone s.now at n cells.old marks.old cells.new marks.new rows.at rows.count rows.width to scratch }
 {
     let mut j = 0;
     while j < n {
-        write_aggregate(s, at + 3 * j, cells, marks, base, rows, w, to + j, scratch);
+        write_aggregate(s, at + 3 * j, cells, marks, rows, to + j, scratch);
         j += 1;
     }
 }
 
 // Writes a group's row: its key, then its aggregates.
-fn write_group(
-    s: &[u8],
-    at: usize,
-    cells: &mut [i64],
-    marks: &mut [u8],
-    base: usize,
-    rows: usize,
-    w: usize,
-    to: usize,
-)
-    requires { RowRoom s.now at cells.old marks.old base rows w to }
-    ensures { RowDone s.now at cells.old marks.old cells.new marks.new base rows w to }
+fn write_group(s: &[u8], at: usize, cells: &mut [i64], marks: &mut [u8], rows: Rows, to: usize)
+    requires { RowRoom s.now at cells.old marks.old rows.at rows.count rows.width to }
+    ensures { RowDone s.now at cells.old marks.old cells.new marks.new rows.at rows.count rows.width to }
 {
     let columns = s[at + 1] as usize;
     let aggregates = s[at + 2] as usize;
-    write_key(s, at + 3, columns, cells, marks, base, to);
+    write_key(s, at + 3, columns, cells, marks, rows.at, to);
     let behind = to + columns;
     write_aggregates(
         s,
@@ -186,9 +179,7 @@ fn write_group(
         aggregates,
         cells,
         marks,
-        base,
         rows,
-        w,
         behind,
         behind + aggregates,
     );
@@ -201,18 +192,16 @@ fn run_end(
     n: usize,
     cells: &[i64],
     marks: &[u8],
-    base: usize,
-    rows: usize,
-    w: usize,
+    rows: Rows,
     i: usize,
 ) -> usize
-    requires { EndRoom s.now from n cells.now marks.now base rows w i }
-    ensures { RunEnd (columns s.now from n) (rows_from cells.now marks.now w base rows) i result }
+    requires { EndRoom s.now from n cells.now marks.now rows.at rows.count rows.width i }
+    ensures { RunEnd (columns s.now from n) (rows_from cells.now marks.now rows.width rows.at rows.count) i result }
 {
-    let first = base + i * w;
+    let first = rows.at + i * rows.width;
     let mut end = i + 1;
-    while end < rows {
-        if !sorting::same_key(s, from, n, cells, marks, base + end * w, first) {
+    while end < rows.count {
+        if !sorting::same_key(s, from, n, cells, marks, rows.at + end * rows.width, first) {
             return end;
         }
         end += 1;
@@ -226,30 +215,24 @@ fn write_groups(
     at: usize,
     cells: &mut [i64],
     marks: &mut [u8],
-    input: usize,
-    rows: usize,
-    w: usize,
+    input: Rows,
     out: usize,
 ) -> usize
-    requires { GroupRoom s.now at cells.old marks.old input rows w out }
-    ensures { RunsDone s.now at cells.old marks.old cells.new marks.new input rows w out result }
+    requires { GroupRoom s.now at cells.old marks.old input.at input.count input.width out }
+    ensures { RunsDone s.now at cells.old marks.old cells.new marks.new input.at input.count input.width out result }
 {
     let columns = s[at + 1] as usize;
     let width = columns + s[at + 2] as usize;
     let mut count = 0;
     let mut i = 0;
-    while i < rows {
-        let end = run_end(s, at + 3, columns, cells, marks, input, rows, w, i);
-        write_group(
-            s,
-            at,
-            cells,
-            marks,
-            input + i * w,
-            end - i,
-            w,
-            out + count * width,
-        );
+    while i < input.count {
+        let end = run_end(s, at + 3, columns, cells, marks, input, i);
+        let run = Rows {
+            at: input.at + i * input.width,
+            count: end - i,
+            width: input.width,
+        };
+        write_group(s, at, cells, marks, run, out + count * width);
         count += 1;
         i = end;
     }
@@ -263,15 +246,23 @@ pub fn group_rows(
     at: usize,
     cells: &mut [i64],
     marks: &mut [u8],
-    input: usize,
-    rows: usize,
-    w: usize,
+    input: Rows,
     out: usize,
 ) -> usize
-    requires { GroupRoom s.now at cells.old marks.old input rows w out }
-    ensures { GroupDone s.now at cells.old marks.old cells.new marks.new input rows w out result }
+    requires { GroupRoom s.now at cells.old marks.old input.at input.count input.width out }
+    ensures { GroupDone s.now at cells.old marks.old cells.new marks.new input.at input.count input.width out result }
 {
     let columns = s[at + 1] as usize;
-    sorting::sort_rows(s, at + 3, columns, cells, marks, input, rows, w, out);
-    write_groups(s, at, cells, marks, input, rows, w, out)
+    sorting::sort_rows(
+        s,
+        at + 3,
+        columns,
+        cells,
+        marks,
+        input.at,
+        input.count,
+        input.width,
+        out,
+    );
+    write_groups(s, at, cells, marks, input, out)
 }

@@ -6,12 +6,12 @@ use Rattle.grouping.proofs.feed.Goals.{In-loop-k}
 
 -- the row to read lies inside
 in_cells : (c : In-loop-k)
-    → c.args.base + c.loop-k.k * c.args.w + c.args.w
+    → c.args.rows.at + c.loop-k.k * c.args.rows.width + c.args.rows.width
     ≤ length c.args.cells.now
 in_cells c = row-cells c.requires c.loop-k.k c.loop-k-test.true
 
 in_marks : (c : In-loop-k)
-    → c.args.base + c.loop-k.k * c.args.w + c.args.w
+    → c.args.rows.at + c.loop-k.k * c.args.rows.width + c.args.rows.width
     ≤ length c.args.marks.now
 in_marks c = row-marks c.requires c.loop-k.k c.loop-k-test.true
 
@@ -58,18 +58,18 @@ bounds-marks-row-in-loop-k c =
 pub add-state-requires : goal.add-state-requires
 add-state-requires c =
     let l = c.loop-k in
-    let ev = to_z-of_z {w = w64} {z = get_or c.args.cells.now (c.args.base + l.k * c.args.w + c.args.v) (pos 0)} (record { sfits = c.v_cell-1.given }) in
-    let ec = to_z-of_z {w = w64} {z = get_or c.args.cells.now (c.args.base + l.k * c.args.w + c.args.c) (pos 0)} (record { sfits = c.c_cell-1.given }) in
+    let ev = to_z-of_z {w = w64} {z = get_or c.args.cells.now (c.args.rows.at + l.k * c.args.rows.width + c.args.v) (pos 0)} (record { sfits = c.v_cell-1.given }) in
+    let ec = to_z-of_z {w = w64} {z = get_or c.args.cells.now (c.args.rows.at + l.k * c.args.rows.width + c.args.c) (pos 0)} (record { sfits = c.c_cell-1.given }) in
     fed_room c.requires l.k c.loop-k-test.true l.invariant.0 ev ec
 
 pub loop-k-preserved : goal.loop-k-preserved
 loop-k-preserved c =
     let l = c.loop-k in
-    let ev = to_z-of_z {w = w64} {z = get_or c.args.cells.now (c.args.base + l.k * c.args.w + c.args.v) (pos 0)} (record { sfits = c.v_cell-1.given }) in
-    let ec = to_z-of_z {w = w64} {z = get_or c.args.cells.now (c.args.base + l.k * c.args.w + c.args.c) (pos 0)} (record { sfits = c.c_cell-1.given }) in
+    let ev = to_z-of_z {w = w64} {z = get_or c.args.cells.now (c.args.rows.at + l.k * c.args.rows.width + c.args.v) (pos 0)} (record { sfits = c.v_cell-1.given }) in
+    let ec = to_z-of_z {w = w64} {z = get_or c.args.cells.now (c.args.rows.at + l.k * c.args.rows.width + c.args.c) (pos 0)} (record { sfits = c.c_cell-1.given }) in
     (fed_more c.requires l.k c.loop-k-test.true l.invariant.0 ev ec c.add-state.ensures, omega arith)
 
 pub returns : goal.returns
 returns c =
-    let e : c.loop-k.k ≡ c.args.rows = omega arith in
+    let e : c.loop-k.k ≡ c.args.rows.count = omega arith in
     rw e at c.loop-k.invariant.0

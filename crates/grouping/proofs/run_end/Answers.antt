@@ -18,8 +18,8 @@ loop-end-init c = alike-one c.requires
 pub overflow_mul-end : goal.overflow_mul-end
 overflow_mul-end c = omega (arith, row-cells c.requires c.loop-end.end c.loop-end-test.true)
 
-pub overflow_add-base : goal.overflow_add-base
-overflow_add-base c = omega (arith, row-cells c.requires c.loop-end.end c.loop-end-test.true)
+pub overflow_add-rows : goal.overflow_add-rows
+overflow_add-rows c = omega (arith, row-cells c.requires c.loop-end.end c.loop-end-test.true)
 
 pub same_key-requires : goal.same_key-requires
 same_key-requires c = keys_in c.requires c.loop-end.end c.loop-end.invariant c.loop-end-test.true

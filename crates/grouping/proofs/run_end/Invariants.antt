@@ -6,7 +6,7 @@ use Rattle.grouping.specs.Ending.{Alike}
 use Rattle.grouping.proofs.run_end.Given as goal
 
 abbrev pub invariant-loop-end : goal.invariant-loop-end
-invariant-loop-end l = Alike (columns l.s l.from l.n) (rows_from l.cells l.marks l.w l.base l.rows) l.i l.end
+invariant-loop-end l = Alike (columns l.s l.from l.n) (rows_from l.cells l.marks l.rows.width l.rows.at l.rows.count) l.i l.end
 
 abbrev pub decreases-loop-end : goal.decreases-loop-end
-decreases-loop-end l = l.rows - l.end
+decreases-loop-end l = l.rows.count - l.end

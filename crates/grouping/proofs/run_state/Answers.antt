@@ -30,9 +30,9 @@ feed-requires c =
 pub returns-then-not-needs_order : goal.returns-then-not-needs_order
 returns-then-not-needs_order c = plain_done c.requires c.feed.ensures
 
-pub overflow_add-base : goal.overflow_add-base
-overflow_add-base c =
-    omega (arith, column-starts c.requires c.needs_order.ensures (ordered (goal.at.overflow_add-base c).Else-not-needs_order), two_cells c.requires c.needs_order.ensures (ordered (goal.at.overflow_add-base c).Else-not-needs_order))
+pub overflow_add-rows : goal.overflow_add-rows
+overflow_add-rows c =
+    omega (arith, column-starts c.requires c.needs_order.ensures (ordered (goal.at.overflow_add-rows c).Else-not-needs_order), two_cells c.requires c.needs_order.ensures (ordered (goal.at.overflow_add-rows c).Else-not-needs_order))
 
 pub copy_column-requires : goal.copy_column-requires
 copy_column-requires c = column-room c.requires c.needs_order.ensures (ordered (goal.at.copy_column-requires c).Else-not-needs_order)

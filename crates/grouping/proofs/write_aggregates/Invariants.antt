@@ -5,7 +5,7 @@ use Rattle.grouping.proofs.write_aggregates.Given as goal
 
 abbrev pub invariant-loop-j : goal.invariant-loop-j
 invariant-loop-j l =
-    CellsDone l.s l.at l.j l.initial.cells l.initial.marks l.cells l.marks l.base l.rows l.w l.to l.scratch × (l.j ≤ l.n)
+    CellsDone l.s l.at l.j l.initial.cells l.initial.marks l.cells l.marks l.rows.at l.rows.count l.rows.width l.to l.scratch × (l.j ≤ l.n)
 
 abbrev pub decreases-loop-j : goal.decreases-loop-j
 decreases-loop-j l = l.n - l.j

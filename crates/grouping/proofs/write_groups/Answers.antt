@@ -27,16 +27,16 @@ overflow_add-at c = omega (arith, node-inside c.requires)
 pub run_end-end-requires : goal.run_end-end-requires
 run_end-end-requires c = end_room c.requires c.loop-i.invariant c.loop-i-test.true
 
-pub overflow_mul-i : goal.overflow_mul-i
-overflow_mul-i c =
+pub overflow_mul-run : goal.overflow_mul-run
+overflow_mul-run c =
     omega (arith, run-below c.requires c.loop-i.invariant c.loop-i-test.true c.run_end-end.ensures, c.requires.cells-room)
 
-pub overflow_add-input : goal.overflow_add-input
-overflow_add-input c =
+pub overflow_add-run : goal.overflow_add-run
+overflow_add-run c =
     omega (arith, run-below c.requires c.loop-i.invariant c.loop-i-test.true c.run_end-end.ensures, c.requires.cells-room)
 
-pub overflow_sub-end : goal.overflow_sub-end
-overflow_sub-end c =
+pub overflow_sub-run : goal.overflow_sub-run
+overflow_sub-run c =
     omega (arith, end_after c.requires c.loop-i.invariant c.loop-i-test.true c.run_end-end.ensures)
 
 pub overflow_mul-count : goal.overflow_mul-count

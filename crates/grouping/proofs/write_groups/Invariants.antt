@@ -4,7 +4,7 @@ use Rattle.grouping.specs.Grouping.{Grouped}
 use Rattle.grouping.proofs.write_groups.Given as goal
 
 abbrev pub invariant-loop-i : goal.invariant-loop-i
-invariant-loop-i l = Grouped l.s l.at l.initial.cells l.initial.marks l.cells l.marks l.input l.rows l.w l.out l.count l.i
+invariant-loop-i l = Grouped l.s l.at l.initial.cells l.initial.marks l.cells l.marks l.input.at l.input.count l.input.width l.out l.count l.i
 
 abbrev pub decreases-loop-i : goal.decreases-loop-i
-decreases-loop-i l = l.rows - l.i
+decreases-loop-i l = l.input.count - l.i
