@@ -3,3 +3,4 @@ pub mod Words
 pub mod Rows
 pub mod Widths
 pub mod Nodes
+pub mod Tags

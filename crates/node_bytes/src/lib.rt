@@ -1,8 +1,42 @@
 #![tactic(auto)]
 
-// Numbers in a byte string.
+// Numbers in a byte string, and what the first byte of a node says.
 ghost use Rattle.std.specs.Prelude.{◌≡◌, ◌+◌, ◌*◌, ◌≤◌, ◌<◌, length};
 ghost use Rattle.node_bytes.specs.Words.{four, word_at};
+ghost use Rattle.node_bytes.specs.Tags.{tag_of};
+
+/// The kind of a node, by its first byte.
+#[derive(Clone, Copy, Debug, PartialEq, Eq, PartialOrd, Ord)]
+pub enum Tag {
+    /// 0
+    Table,
+    /// 1
+    Inner,
+    /// 2
+    LeftOuter,
+    /// 3
+    FullOuter,
+    /// 4
+    Grouping,
+    /// A byte from 5 on is no node's.
+    Other,
+}
+
+impl From<u8> for Tag {
+    ghost from_gives = { λ byte tag. tag ≡ tag_of byte };
+
+    #[tactic(auto, using(crate::specs::Tags::tag_other), unfolding(crate::specs::Tags::tag_of))]
+    fn from(byte: u8) -> Tag {
+        match byte {
+            0 => Tag::Table,
+            1 => Tag::Inner,
+            2 => Tag::LeftOuter,
+            3 => Tag::FullOuter,
+            4 => Tag::Grouping,
+            _ => Tag::Other,
+        }
+    }
+}
 
 // The number of four bytes, the lowest first.
 fn quad(a: u8, b: u8, c: u8, d: u8) -> u64
