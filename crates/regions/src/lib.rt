@@ -1,6 +1,6 @@
 #![tactic(auto)]
 
-// Rows in a lent area of cells and marks: copied where they are, cell by cell.
+// Rows in a lent area of cells and marks: where they stand, how they are copied, and how an area is cleared.
 ghost use Rattle.std.specs.Prelude.{◌≤◌, length};
 ghost use Rattle.regions.specs.Copying.{Room, CopiedWithin, RoomIn, CopiedIn};
 ghost use Rattle.regions.specs.Clearing.{Cleared};
@@ -18,14 +18,8 @@ pub fn copy_within(cells: &mut [i64], marks: &mut [u8], from: usize, to: usize, 
     requires { Room cells.old marks.old from to n }
     ensures { CopiedWithin cells.old marks.old cells.new marks.new from to n }
 {
-    let mut i = 0;
-    while i < n {
-        let cell = cells[from + i];
-        let mark = marks[from + i];
-        cells[to + i] = cell;
-        marks[to + i] = mark;
-        i += 1;
-    }
+    cells.copy_within(from..from + n, to);
+    marks.copy_within(from..from + n, to);
 }
 
 // Copies n cells and their marks from one area into another.
@@ -41,14 +35,8 @@ pub fn copy_into(
     requires { RoomIn source.now source_marks.now cells.old marks.old from to n }
     ensures { CopiedIn source.now source_marks.now cells.old marks.old cells.new marks.new from to n }
 {
-    let mut i = 0;
-    while i < n {
-        let cell = source[from + i];
-        let mark = source_marks[from + i];
-        cells[to + i] = cell;
-        marks[to + i] = mark;
-        i += 1;
-    }
+    cells[to..to + n].copy_from_slice(&source[from..from + n]);
+    marks[to..to + n].copy_from_slice(&source_marks[from..from + n]);
 }
 
 // The first n elements of an area become zero; `fill` would ask that a clone of `zero` not fail, which `Copy` does not say.
