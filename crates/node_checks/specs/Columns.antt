@@ -1,5 +1,6 @@
 -- Refusal 3 at one node, read off its bytes: the columns that its pairs, grouping columns and aggregates name.
-use Rattle.std.specs.Prelude.{Bool, true, not, ◌&&◌, ◌||◌, List, ℕ, zero, suc, ◌+◌, eqb, ltb}
+use Rattle.std.specs.Prelude.{Bool, true, not, ◌&&◌, ◌||◌, List, ℕ, zero, suc, ◌+◌, eqb, ltb, get_or, drop}
+use Rattle.std.specs.List.{list_any}
 use Rattle.rules.specs.Lines.{entry_of}
 use Rattle.node_bytes.specs.Nodes.{byte}
 use Rattle.node_bytes.specs.Rows.{every}
@@ -24,6 +25,10 @@ other_at s i at = not (eqb i (byte s at))
 
 unfoldable pub absent_at : List ℕ → ℕ → ℕ → ℕ → Bool
 absent_at s at n i = every (other_at s i) 1 at n
+
+-- the i-th of some columns is none of those behind it
+abbrev pub alone : List ℕ → ℕ → Bool
+alone columns i = not (list_any (λ (y : ℕ). eqb y (get_or columns i 0)) (drop (i + 1) columns))
 
 -- n columns from a place on are all different
 unfoldable pub distinct_at : List ℕ → ℕ → ℕ → Bool

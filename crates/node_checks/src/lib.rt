@@ -6,7 +6,7 @@ ghost use Rattle.meaning.specs.Limits.{up_to};
 ghost use Rattle.meaning.specs.Check.{apart};
 ghost use Rattle.node_bytes.specs.Nodes.{join_size, group_size};
 ghost use Rattle.node_checks.specs.Numbers.{join_within_at, counts_right, join_columns_at, join_weights_at, group_within_at, group_columns_at, group_weights_at, JoinKinds, GroupKinds};
-ghost use Rattle.node_checks.specs.Columns.{pairs_at, columns_at, absent_at, distinct_at, read_at, reads_at};
+ghost use Rattle.node_checks.specs.Columns.{pairs_at, columns_at, alone, distinct_at, read_at, reads_at};
 ghost use Rattle.node_checks.specs.Weights.{default_at, defaults_at, weight_at, weights_at, column_kinds_at, aggregate_kind_at, aggregate_kinds_at};
 
 // Whether n pairs from a place on name columns of inputs that are l and r wide.
@@ -14,19 +14,7 @@ fn pairs_there(s: &[u8], from: usize, n: usize, l: usize, r: usize) -> bool
     requires { from + 2 * n ≤ length s.now }
     ensures { result ≡ pairs_at s.now from n l r }
 {
-    let mut at = from;
-    let mut left = n;
-    while 0 < left {
-        if l <= s[at] as usize {
-            return false;
-        }
-        if r <= s[at + 1] as usize {
-            return false;
-        }
-        at += 2;
-        left -= 1;
-    }
-    true
+    (0..n).all(|i| (s[from + 2 * i] as usize) < l && (s[from + 2 * i + 1] as usize) < r)
 }
 
 // Whether n columns from a place on are below w.
@@ -34,33 +22,17 @@ fn columns_there(s: &[u8], from: usize, n: usize, w: usize) -> bool
     requires { from + n ≤ length s.now }
     ensures { result ≡ columns_at s.now from n w }
 {
-    let mut at = from;
-    let mut left = n;
-    while 0 < left {
-        if w <= s[at] as usize {
-            return false;
-        }
-        at += 1;
-        left -= 1;
-    }
-    true
+    s[from..from + n]
+        .iter()
+        .all(|column| (*column as usize) < w)
 }
 
-// Whether n columns from a place on are all other than i.
-fn absent(s: &[u8], from: usize, n: usize, i: u8) -> bool
-    requires { from + n ≤ length s.now }
-    ensures { result ≡ absent_at s.now from n i }
+// Whether the i-th of some columns is none of those behind it.
+fn alone(columns: &[u8], i: usize) -> bool
+    requires { i < length columns.now }
+    ensures { result ≡ alone columns.now i }
 {
-    let mut at = from;
-    let mut left = n;
-    while 0 < left {
-        if i == s[at] {
-            return false;
-        }
-        at += 1;
-        left -= 1;
-    }
-    true
+    !columns[i + 1..].contains(&columns[i])
 }
 
 // Whether n columns from a place on are all different.
@@ -68,20 +40,12 @@ fn all_different(s: &[u8], from: usize, n: usize) -> bool
     requires { from + n ≤ length s.now }
     ensures { result ≡ distinct_at s.now from n }
 {
-    let mut at = from;
-    let mut left = n;
-    while 0 < left {
-        let i = s[at];
-        at += 1;
-        left -= 1;
-        if !absent(s, at, left, i) {
-            return false;
-        }
-    }
-    true
+    let columns = &s[from..from + n];
+    (0..n).all(|i| alone(columns, i))
 }
 
 // Whether the columns that one aggregate reads are below w.
+#[tactic(auto, unfolding(crate::specs::Columns::read_at))]
 fn read_there(s: &[u8], at: usize, w: usize) -> bool
     requires { at + 3 ≤ length s.now }
     ensures { result ≡ read_at s.now w at }
@@ -104,19 +68,11 @@ fn reads_there(s: &[u8], from: usize, n: usize, w: usize) -> bool
     requires { from + 3 * n ≤ length s.now }
     ensures { result ≡ reads_at s.now from n w }
 {
-    let mut at = from;
-    let mut left = n;
-    while 0 < left {
-        if !read_there(s, at, w) {
-            return false;
-        }
-        at += 3;
-        left -= 1;
-    }
-    true
+    (0..n).all(|i| read_there(s, from + 3 * i, w))
 }
 
 // Whether a default is null, or in the range of its kind.
+#[tactic(auto, unfolding(crate::specs::Weights::default_at))]
 fn default_right(s: &[u8], at: usize, kind: u8) -> bool
     requires { at + 9 ≤ length s.now }
     ensures { result ≡ default_at s.now at kind }
@@ -136,29 +92,19 @@ fn defaults_right(s: &[u8], from: usize, n: usize, kinds: &[u8; 16]) -> bool
     requires { from + 9 * n ≤ length s.now }
     ensures { result ≡ defaults_at s.now from n kinds.now 0 }
 {
-    let mut at = from;
-    let mut i = 0;
-    while i < n {
-        if !default_right(s, at, kind_of(*kinds, i)) {
-            return false;
-        }
-        at += 9;
-        i += 1;
-    }
-    true
+    (0..n).all(|i| default_right(s, from + 9 * i, kind_of(kinds, i)))
 }
 
 // Whether two columns stand in different inputs, of which the left one is l wide.
+#[tactic(auto, unfolding(meaning::specs::Check::apart))]
 fn apart(l: usize, v: usize, c: usize) -> bool
     ensures { result ≡ apart l v c }
 {
-    if v < l {
-        return l <= c;
-    }
-    c < l
+    if v < l { l <= c } else { c < l }
 }
 
 // Whether an aggregate is not weighted, or its weight is in its place and of its kind; l is the left width of the join below, else 0.
+#[tactic(auto, unfolding(crate::specs::Weights::weight_at))]
 fn weight_right(s: &[u8], at: usize, l: usize, kinds: &[u8; 16]) -> bool
     requires { at + 3 ≤ length s.now }
     ensures { result ≡ weight_at s.now l kinds.now at }
@@ -171,7 +117,7 @@ fn weight_right(s: &[u8], at: usize, l: usize, kinds: &[u8; 16]) -> bool
         return false;
     }
     let c = s[at + 2] as usize;
-    if kind_of(*kinds, c) != 1 {
+    if kind_of(kinds, c) != 1 {
         return false;
     }
     apart(l, s[at + 1] as usize, c)
@@ -182,26 +128,14 @@ fn weights_right(s: &[u8], from: usize, n: usize, l: usize, kinds: &[u8; 16]) ->
     requires { from + 3 * n ≤ length s.now }
     ensures { result ≡ weights_at s.now from n l kinds.now }
 {
-    let mut at = from;
-    let mut left = n;
-    while 0 < left {
-        if !weight_right(s, at, l, kinds) {
-            return false;
-        }
-        at += 3;
-        left -= 1;
-    }
-    true
+    (0..n).all(|i| weight_right(s, from + 3 * i, l, kinds))
 }
 
-// The kind of a column, plain where there is no such column. The kinds come by value, which tells that there are 16.
-fn kind_of(kinds: [u8; 16], i: usize) -> u8
-    ensures { (result ≡ get_or kinds i 0) × (length kinds ≡ 16) }
+// The kind of a column, plain where there is no such column.
+fn kind_of(kinds: &[u8; 16], i: usize) -> u8
+    ensures { result ≡ get_or kinds.now i 0 }
 {
-    if i < 16 {
-        return kinds[i];
-    }
-    0
+    kinds.get(i).copied().unwrap_or(0)
 }
 
 // The kinds of n grouping columns from a place on, in front of the others.
@@ -210,15 +144,14 @@ fn column_kinds(s: &[u8], from: usize, n: usize, kinds: &[u8; 16]) -> [u8; 16]
     ensures { take n result ≡ column_kinds_at s.now from n kinds.now }
 {
     let mut out = [0u8; 16];
-    let mut i = 0;
-    while i < n {
-        out[i] = kind_of(*kinds, s[from + i] as usize);
-        i += 1;
+    for i in 0..n {
+        out[i] = kind_of(kinds, s[from + i] as usize);
     }
     out
 }
 
 // The kind of an aggregate over columns of these kinds.
+#[tactic(auto, unfolding(crate::specs::Weights::aggregate_kind_at))]
 fn aggregate_kind(s: &[u8], at: usize, kinds: &[u8; 16]) -> u8
     requires { at + 3 ≤ length s.now }
     ensures { result ≡ aggregate_kind_at s.now kinds.now at }
@@ -226,7 +159,7 @@ fn aggregate_kind(s: &[u8], at: usize, kinds: &[u8; 16]) -> u8
     if rules::entry(s[at] as usize, 2) == 1 {
         return 1;
     }
-    kind_of(*kinds, s[at + 1] as usize)
+    kind_of(kinds, s[at + 1] as usize)
 }
 
 // The kinds of n aggregates from a place on, behind the first `done` of those so far.
@@ -242,12 +175,8 @@ fn aggregate_kinds(
     ensures { take (done + n) result ≡ take done sofar ++ aggregate_kinds_at s.now from n kinds.now }
 {
     let mut out = sofar;
-    let mut at = from;
-    let mut i = 0;
-    while i < n {
-        out[done + i] = aggregate_kind(s, at, kinds);
-        at += 3;
-        i += 1;
+    for i in 0..n {
+        out[done + i] = aggregate_kind(s, from + 3 * i, kinds);
     }
     out
 }
@@ -258,36 +187,29 @@ fn append_kinds(left: [u8; 16], l: usize, right: &[u8; 16], r: usize) -> [u8; 16
     ensures { take (l + r) result ≡ take l left ++ take r right.now }
 {
     let mut out = left;
-    let mut i = 0;
-    while i < r {
-        out[l + i] = kind_of(*right, i);
-        i += 1;
-    }
+    out[l..l + r].copy_from_slice(&right[..r]);
     out
 }
 
 // Whether a number is at least 1 and at most `most`.
+#[tactic(auto, unfolding(meaning::specs::Limits::up_to))]
 pub fn up_to(most: usize, n: usize) -> bool
     ensures { result ≡ up_to most n }
 {
-    if n == 0 {
-        return false;
-    }
-    n <= most
+    (1..=most).contains(&n)
 }
 
 // 2 at a join whose inputs are l and r wide.
+#[tactic(auto, unfolding(node_bytes::specs::Nodes::join_size, crate::specs::Numbers::join_within_at, meaning::specs::Limits::most_columns, meaning::specs::Limits::most_pairs))]
 pub fn join_within(s: &[u8], at: usize, l: usize, r: usize) -> bool
     requires { (at + join_size s.now at ≤ length s.now) × ((l < 65536) × (r < 65536)) }
     ensures { result ≡ join_within_at s.now at l r }
 {
-    if !up_to(16, l + r) {
-        return false;
-    }
-    up_to(4, s[at + 1] as usize)
+    up_to(16, l + r) && up_to(4, s[at + 1] as usize)
 }
 
 // Whether each padded side has as many defaults as columns.
+#[tactic(auto, unfolding(crate::specs::Numbers::counts_right))]
 fn counts_right(kind: u8, lefts: usize, l: usize, rights: usize, r: usize) -> bool
     ensures { result ≡ counts_right kind lefts l rights r }
 {
@@ -298,17 +220,17 @@ fn counts_right(kind: u8, lefts: usize, l: usize, rights: usize, r: usize) -> bo
 }
 
 // 3 at a join whose inputs are l and r wide.
+#[tactic(auto, unfolding(node_bytes::specs::Nodes::join_size, crate::specs::Numbers::join_columns_at))]
 pub fn join_columns(s: &[u8], at: usize, l: usize, r: usize) -> bool
     requires { at + join_size s.now at ≤ length s.now }
     ensures { result ≡ join_columns_at s.now at l r }
 {
-    if !pairs_there(s, at + 4, s[at + 1] as usize, l, r) {
-        return false;
-    }
-    counts_right(s[at], s[at + 2] as usize, l, s[at + 3] as usize, r)
+    pairs_there(s, at + 4, s[at + 1] as usize, l, r)
+        && counts_right(s[at], s[at + 2] as usize, l, s[at + 3] as usize, r)
 }
 
 // 4 at a join whose inputs have these kinds.
+#[tactic(auto, unfolding(node_bytes::specs::Nodes::join_size, crate::specs::Numbers::join_weights_at))]
 pub fn join_weights(s: &[u8], at: usize, left: &[u8; 16], right: &[u8; 16]) -> bool
     requires { at + join_size s.now at ≤ length s.now }
     ensures { result ≡ join_weights_at s.now at left.now right.now }
@@ -316,10 +238,7 @@ pub fn join_weights(s: &[u8], at: usize, left: &[u8; 16], right: &[u8; 16]) -> b
     let lefts = s[at + 2] as usize;
     let rights = s[at + 3] as usize;
     let from = at + 4 + 2 * (s[at + 1] as usize);
-    if !defaults_right(s, from, lefts, left) {
-        return false;
-    }
-    defaults_right(s, from + 9 * lefts, rights, right)
+    defaults_right(s, from, lefts, left) && defaults_right(s, from + 9 * lefts, rights, right)
 }
 
 // The kinds of a join's columns over inputs of these kinds, l and r wide.
@@ -334,6 +253,7 @@ pub fn join_kinds(left: [u8; 16], l: usize, right: &[u8; 16], r: usize) -> [u8; 
 }
 
 // 2 at a grouping.
+#[tactic(auto, unfolding(node_bytes::specs::Nodes::group_size, crate::specs::Numbers::group_within_at, meaning::specs::Limits::most_columns))]
 pub fn group_within(s: &[u8], at: usize) -> bool
     requires { at + group_size s.now at ≤ length s.now }
     ensures { result ≡ group_within_at s.now at }
@@ -342,22 +262,20 @@ pub fn group_within(s: &[u8], at: usize) -> bool
 }
 
 // 3 at a grouping over w columns.
+#[tactic(auto, unfolding(node_bytes::specs::Nodes::group_size, crate::specs::Numbers::group_columns_at))]
 pub fn group_columns(s: &[u8], at: usize, w: usize) -> bool
     requires { at + group_size s.now at ≤ length s.now }
     ensures { result ≡ group_columns_at s.now at w }
 {
     let columns = s[at + 1] as usize;
     let aggregates = s[at + 2] as usize;
-    if !columns_there(s, at + 3, columns, w) {
-        return false;
-    }
-    if !all_different(s, at + 3, columns) {
-        return false;
-    }
-    reads_there(s, at + 3 + columns, aggregates, w)
+    columns_there(s, at + 3, columns, w)
+        && all_different(s, at + 3, columns)
+        && reads_there(s, at + 3 + columns, aggregates, w)
 }
 
 // 4 at a grouping over columns of these kinds; l is the left width of the join below, else 0.
+#[tactic(auto, unfolding(node_bytes::specs::Nodes::group_size, crate::specs::Numbers::group_weights_at))]
 pub fn group_weights(s: &[u8], at: usize, l: usize, kinds: &[u8; 16]) -> bool
     requires { at + group_size s.now at ≤ length s.now }
     ensures { result ≡ group_weights_at s.now at l kinds.now }
@@ -368,6 +286,7 @@ pub fn group_weights(s: &[u8], at: usize, l: usize, kinds: &[u8; 16]) -> bool
 }
 
 // The kinds of a grouping's columns over columns of these kinds.
+#[tactic(auto, unfolding(node_bytes::specs::Nodes::group_size))]
 pub fn group_kinds(s: &[u8], at: usize, below: &[u8; 16]) -> [u8; 16]
     requires { at + group_size s.now at ≤ length s.now }
     ensures { GroupKinds s.now at below.now result }

@@ -1,16 +1,13 @@
--- `node_checks::all_different` asks of each column whether it is absent from those behind it: what is left to ask is what the definition asks.
-use Rattle.std.proofs.Common.{refl, sym, ◌∙◌, arith}
-use Rattle.node_checks.specs.Steps.{distinct_none, distinct_fails, distinct-passes}
+-- `node_checks::all_different` asks of each column whether none of those behind it is the same.
+use Rattle.std.proofs.Common.{rules, refl, ◌∙◌, ◌+◌, arith, slice_range}
+use Rattle.std.proofs.lemmas.Iterator.{YieldsList-from_range}
+use Rattle.std.proofs.lemmas.Iterator.Search.{all_from_yields_List}
+use Rattle.node_checks.specs.Columns.{alone}
+use Rattle.node_checks.specs.Steps.{distinct_of-range}
 use Rattle.node_checks.proofs.all_different.Goals as goal
 
-pub loop-left-init : goal.loop-left-init
-loop-left-init c = (refl, refl)
-
-pub returns-then-not-absent : goal.returns-then-not-absent
-returns-then-not-absent c = sym (distinct_fails _ _ _ c.loop-left-test.true (sym c.absent.ensures ∙ c.if-not-absent.true)) ∙ c.loop-left.invariant.0
-
-pub loop-left-preserved : goal.loop-left-preserved
-loop-left-preserved c = (sym (distinct-passes _ _ _ c.loop-left-test.true (sym c.absent.ensures ∙ c.if-not-absent.false)) ∙ c.loop-left.invariant.0, omega arith)
-
 pub returns : goal.returns
-returns c = sym (distinct_none _ _ _ c.loop-left-test.false) ∙ c.loop-left.invariant.0
+returns c =
+    let a = c.args in
+    all_from_yields_List (alone (slice_range a.s.now a.from (a.from + a.n))) _ _ _ c.all.ensures.ran (YieldsList-from_range 0 a.n a.n refl (omega arith)) (λ x b q h. search rules)
+    ∙ distinct_of-range a.s.now a.from a.n c.requires

@@ -1,20 +1,14 @@
--- `node_checks::columns_there` tests each column: a walk over columns of one byte.
-use Rattle.std.proofs.Common.{le-ltb, lt-ltb}
-use Rattle.node_bytes.specs.Rows.{walk_starts, walk_passes, walk_fails, walk_ends}
+-- `node_checks::columns_there` tests each column: the bytes of a part of the string.
+use Rattle.std.proofs.Common.{rules, ◌+◌, ltb, ◌∙◌, slice_range}
+use Rattle.std.proofs.lemmas.Iterator.{YieldsList-from_slice}
+use Rattle.std.proofs.lemmas.Iterator.Search.{all_from_yields_List}
 use Rattle.node_checks.specs.Columns.{column_at, columns_at}
+use Rattle.node_checks.specs.Steps.{every_of-part}
 use Rattle.node_checks.proofs.columns_there.Goals as goal
 
-pub loop-left-init : goal.loop-left-init
-loop-left-init c = walk_starts _ _ _ _
-
-pub returns-then-w-s : goal.returns-then-w-s
-unfolding columns_at column_at
-returns-then-w-s c = walk_fails c.loop-left.invariant c.loop-left-test.true (le-ltb _ _ c.if-w-s.true)
-
-pub loop-left-preserved : goal.loop-left-preserved
-unfolding column_at
-loop-left-preserved c = walk_passes c.loop-left.invariant c.loop-left-test.true (lt-ltb _ _ c.if-w-s.false)
-
 pub returns : goal.returns
-unfolding columns_at
-returns c = walk_ends c.loop-left.invariant c.loop-left-test.false
+unfolding columns_at column_at
+returns c =
+    let a = c.args in
+    all_from_yields_List _ _ _ _ c.all.ensures.ran (YieldsList-from_slice (slice_range a.s.now a.from (a.from + a.n)) cc) (λ x b q h. search rules)
+    ∙ every_of-part (λ x. ltb x a.w) a.s.now a.from a.n c.requires
