@@ -1,7 +1,10 @@
 -- The tests of a node, read off its bytes, and the kinds of its columns.
-use Rattle.std.specs.Prelude.{◌≡◌, Bool, not, ◌&&◌, ◌||◌, List, ◌++◌, ℕ, ◌+◌, ◌*◌, ◌≤◌, eqb, ltb, take}
+use Rattle.std.specs.Prelude.{◌≡◌, Bool, not, ◌&&◌, ◌||◌, List, ◌++◌, ℕ, ◌+◌, ◌*◌, ◌<◌, ◌≤◌, min, eqb, ltb, take}
+use Rattle.std.proofs.Common.{arith, ne_eqb, le-ltb}
+use Rattle.std.proofs.Math.Decide.{dec_lt}
 use Rattle.meaning.specs.Limits.{most_columns, most_pairs, up_to}
 use Rattle.node_bytes.specs.Nodes.{byte}
+use Rattle.node_bytes.specs.Tags.{tag_of, byte_in, byte_said}
 use Rattle.node_checks.specs.Columns.{pairs_at, columns_at, distinct_at, reads_at}
 use Rattle.node_checks.specs.Weights.{defaults_at, weights_at, column_kinds_at, aggregate_kinds_at}
 
@@ -12,6 +15,15 @@ join_within_at s at l r = up_to most_columns (l + r) && up_to most_pairs (byte s
 -- a padded side has as many defaults as columns
 unfoldable pub counts_right : ℕ → ℕ → ℕ → ℕ → ℕ → Bool
 counts_right kind lefts l rights r = (not (eqb kind 3) || eqb lefts l) && (ltb kind 2 || eqb rights r)
+
+-- the counts that a byte asks are those of the kind that it says
+pub counts_said : (b lefts l rights r : ℕ) → counts_right (byte_in (tag_of b)) lefts l rights r ≡ counts_right b lefts l rights r
+unfolding counts_right
+counts_said b lefts l rights r = rw (byte_said b) (by_number (dec_lt b 5))
+  where
+    by_number : Dec (b < 5) → counts_right (min b 5) lefts l rights r ≡ counts_right b lefts l rights r
+    by_number (yes h) = let m : min b 5 ≡ b = omega arith in rw m
+    by_number (no h) = let m : min b 5 ≡ 5 = omega arith in simp (m, ne_eqb b 3 (λ e. omega arith), le-ltb b 2 (omega arith))
 
 -- 3 at a join: its pairs, and its counts of defaults
 unfoldable pub join_columns_at : List ℕ → ℕ → ℕ → ℕ → Bool

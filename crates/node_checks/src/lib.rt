@@ -5,9 +5,12 @@ ghost use Rattle.std.specs.Prelude.{◌≡◌, ◌++◌, ◌+◌, ◌*◌, ◌<�
 ghost use Rattle.meaning.specs.Limits.{up_to};
 ghost use Rattle.meaning.specs.Check.{apart};
 ghost use Rattle.node_bytes.specs.Nodes.{join_size, group_size};
+ghost use Rattle.node_bytes.specs.Tags.{byte_in};
 ghost use Rattle.node_checks.specs.Numbers.{join_within_at, counts_right, join_columns_at, join_weights_at, group_within_at, group_columns_at, group_weights_at, JoinKinds, GroupKinds};
 ghost use Rattle.node_checks.specs.Columns.{pairs_at, columns_at, alone, distinct_at, read_at, reads_at};
 ghost use Rattle.node_checks.specs.Weights.{default_at, defaults_at, weight_at, weights_at, column_kinds_at, aggregate_kind_at, aggregate_kinds_at};
+
+use node_bytes::Tag;
 
 // Whether n pairs from a place on name columns of inputs that are l and r wide.
 fn pairs_there(s: &[u8], from: usize, n: usize, l: usize, r: usize) -> bool
@@ -50,17 +53,8 @@ fn read_there(s: &[u8], at: usize, w: usize) -> bool
     requires { at + 3 ≤ length s.now }
     ensures { result ≡ read_at s.now w at }
 {
-    let columns = rules::entry(s[at] as usize, 0);
-    if columns == 0 {
-        return true;
-    }
-    if w <= s[at + 1] as usize {
-        return false;
-    }
-    if columns < 2 {
-        return true;
-    }
-    (s[at + 2] as usize) < w
+    let columns = rules::entry(s[at] as usize, rules::COLUMNS);
+    (columns == 0 || (s[at + 1] as usize) < w) && (columns < 2 || (s[at + 2] as usize) < w)
 }
 
 // Whether the columns that n aggregates from a place on read are below w.
@@ -82,9 +76,10 @@ fn default_right(s: &[u8], at: usize, kind: u8) -> bool
     }
     let number = node_bytes::word(s, at + 1);
     if kind == 0 {
-        return number <= 4294967294;
+        number <= 4294967294
+    } else {
+        number == 0 || number == 2
     }
-    number == 0 || number == 2
 }
 
 // Whether n defaults from a place on are right for the kinds from the first on.
@@ -109,18 +104,9 @@ fn weight_right(s: &[u8], at: usize, l: usize, kinds: &[u8; 16]) -> bool
     requires { at + 3 ≤ length s.now }
     ensures { result ≡ weight_at s.now l kinds.now at }
 {
-    let columns = rules::entry(s[at] as usize, 0);
-    if columns < 2 {
-        return true;
-    }
-    if l == 0 {
-        return false;
-    }
+    let columns = rules::entry(s[at] as usize, rules::COLUMNS);
     let c = s[at + 2] as usize;
-    if kind_of(kinds, c) != 1 {
-        return false;
-    }
-    apart(l, s[at + 1] as usize, c)
+    columns < 2 || (0 < l && kind_of(kinds, c) == 1 && apart(l, s[at + 1] as usize, c))
 }
 
 // Whether the weights of n aggregates from a place on are right.
@@ -156,10 +142,11 @@ fn aggregate_kind(s: &[u8], at: usize, kinds: &[u8; 16]) -> u8
     requires { at + 3 ≤ length s.now }
     ensures { result ≡ aggregate_kind_at s.now kinds.now at }
 {
-    if rules::entry(s[at] as usize, 2) == 1 {
-        return 1;
+    if rules::entry(s[at] as usize, rules::KIND) == 1 {
+        1
+    } else {
+        kind_of(kinds, s[at + 1] as usize)
     }
-    kind_of(kinds, s[at + 1] as usize)
 }
 
 // The kinds of n aggregates from a place on, behind the first `done` of those so far.
@@ -210,23 +197,30 @@ pub fn join_within(s: &[u8], at: usize, l: usize, r: usize) -> bool
 
 // Whether each padded side has as many defaults as columns.
 #[tactic(auto, unfolding(crate::specs::Numbers::counts_right))]
-fn counts_right(kind: u8, lefts: usize, l: usize, rights: usize, r: usize) -> bool
-    ensures { result ≡ counts_right kind lefts l rights r }
+fn counts_right(tag: Tag, lefts: usize, l: usize, rights: usize, r: usize) -> bool
+    ensures { result ≡ counts_right (byte_in tag) lefts l rights r }
 {
-    if kind == 3 && lefts != l {
-        return false;
+    match tag {
+        Tag::Table | Tag::Inner => true,
+        Tag::FullOuter => lefts == l && rights == r,
+        _ => rights == r,
     }
-    kind < 2 || rights == r
 }
 
 // 3 at a join whose inputs are l and r wide.
-#[tactic(auto, unfolding(node_bytes::specs::Nodes::join_size, crate::specs::Numbers::join_columns_at))]
+#[tactic(auto, using(crate::specs::Numbers::counts_said), unfolding(node_bytes::specs::Nodes::join_size, crate::specs::Numbers::join_columns_at))]
 pub fn join_columns(s: &[u8], at: usize, l: usize, r: usize) -> bool
     requires { at + join_size s.now at ≤ length s.now }
     ensures { result ≡ join_columns_at s.now at l r }
 {
     pairs_there(s, at + 4, s[at + 1] as usize, l, r)
-        && counts_right(s[at], s[at + 2] as usize, l, s[at + 3] as usize, r)
+        && counts_right(
+            Tag::from(s[at]),
+            s[at + 2] as usize,
+            l,
+            s[at + 3] as usize,
+            r,
+        )
 }
 
 // 4 at a join whose inputs have these kinds.
