@@ -1,5 +1,5 @@
 -- Values that ascend, equal neighbours allowed: what one more of them changes in the list of the different ones.
-use Rattle.std.specs.Prelude.{◌≡◌, refl, Bool, true, false, not, cond, ◌&&◌, List, [], ◌∷◌, ◌++◌, ℤ, pos}
+use Rattle.std.specs.Prelude.{◌≡◌, refl, Bool, true, false, not, cond, ◌&&◌, List, [], ◌∷◌, ◌++◌, ℤ, Option, Some, None}
 use Rattle.std.proofs.Common.{ap, ◌∙◌}
 use Rattle.std.specs.Int.Signed.{lt_z}
 use Rattle.std.proofs.lemmas.Bool.{not-true}
@@ -23,9 +23,9 @@ unfoldable pub last_from : ℤ → List ℤ → ℤ
 last_from x [] = x
 last_from x (y ∷ ys) = last_from y ys
 
-unfoldable pub last_of : List ℤ → ℤ
-last_of [] = pos 0
-last_of (x ∷ xs) = last_from x xs
+unfoldable pub last_if : List ℤ → Option ℤ
+last_if [] = None
+last_if (x ∷ xs) = Some (last_from x xs)
 
 -- one value more is the last
 last_from_more : (x : ℤ) (xs : List ℤ) (z : ℤ) → last_from x (xs ++ z ∷ []) ≡ z
@@ -33,10 +33,10 @@ unfolding last_from
 last_from_more x [] z = refl
 last_from_more x (y ∷ ys) z = last_from_more y ys z
 
-pub last_more : (xs : List ℤ) (z : ℤ) → last_of (xs ++ z ∷ []) ≡ z
-unfolding last_of last_from
+pub last_more : (xs : List ℤ) (z : ℤ) → last_if (xs ++ z ∷ []) ≡ Some z
+unfolding last_if last_from
 last_more [] z = refl
-last_more (x ∷ xs) z = last_from_more x xs z
+last_more (x ∷ xs) z = ap Some (last_from_more x xs z)
 
 -- what ascends with more values ascends without them
 pub upwards-front : (x : ℤ) (xs ys : List ℤ) → upwards_from x (xs ++ ys) ≡ true → upwards_from x xs ≡ true

@@ -1,16 +1,14 @@
 -- What an aggregate takes of a row, by its cells v and c, and of rows after others.
-use Rattle.std.specs.Prelude.{◌≡◌, refl, true, false, List, [], ◌∷◌, ◌++◌, ℕ, ◌≤◌, get_or, ℤ, pos, ◌*ℤ◌}
+use Rattle.std.specs.Prelude.{◌≡◌, refl, true, false, List, [], ◌∷◌, ◌++◌, ℕ, ◌≤◌, get_or, ℤ, pos, ◌*ℤ◌, Option, Some, None}
 use Rattle.std.proofs.Common.{sym, ap, ◌∙◌, append_assoc, arith}
 use Rattle.std.proofs.Math.IntN.{+ℤ_idr}
 use Rattle.meaning.specs.Cells.{Cell, null, num}
 use Rattle.meaning.specs.Plans.{Row, Table, Name, Rows, Count, Sum, Least, Greatest, DistinctSum, DistinctCount, WeightedSum, WeightedCount, Aggregate, rows, count, sum, least, greatest, distinct_sum, distinct_count, weighted_sum, weighted_count, name_of, columns_read}
 use Rattle.meaning.specs.Joining.{cell}
 use Rattle.meaning.specs.Aggregating.{value, product, weight_of, taken, values_of, total, smallest, largest, into, ascending, made_of}
-use Rattle.meaning.specs.Arrangement.{name_number}
-use Rattle.meaning.specs.Running.{cell_number, cell_mark}
 use Rattle.numbers.specs.Integers.{false_true}
-use Rattle.running.specs.States.{distinct_of, takes_of, amount_of, size_of}
-use Rattle.running.specs.Values.{is_distinct}
+use Rattle.running.specs.States.{distinct_of, product_if, amount_of, size_if}
+use Rattle.running.specs.Names.{called, is_distinct}
 use Rattle.running.specs.Sizes.{most_of, made-size}
 
 -- the values that an aggregate of this name takes of a row with these cells v and c
@@ -44,40 +42,43 @@ taken-by (distinct_count v) r = refl
 taken-by (weighted_sum v c) r = refl
 taken-by (weighted_count v c) r = refl
 
--- a row of these numbers and marks gives no value, or the one value z
-pub data Gives (n : Name) (v : ℤ) (v_mark : ℕ) (c : ℤ) (c_mark : ℕ) : List ℤ → Type 0 where
-  nothing : takes_of (name_number n) v_mark c_mark ≡ false → Gives n v v_mark c c_mark []
-  one : (z : ℤ) → takes_of (name_number n) v_mark c_mark ≡ true → amount_of (name_number n) v c ≡ made_of n z [] → (is_distinct n ≡ true → v ≡ z)
-      → Gives n v v_mark c c_mark (z ∷ [])
+-- a cell as the code reads it: the number, none for null
+unfoldable pub cell_value : Cell → Option ℤ
+cell_value null = None
+cell_value (num z) = Some z
 
-pub gives : (n : Name) (p q : Cell) → Gives n (cell_number p) (cell_mark p) (cell_number q) (cell_mark q) (taken_by n p q)
-unfolding taken_by value product weight_of cell_number cell_mark takes_of amount_of made_of total smallest largest ascending into name_number distinct_of
-gives Rows p q = one (pos 1) refl refl false_true
+-- a row of these cells gives no value, or the one value z
+pub data Gives (n : Name) (v c : Option ℤ) : List ℤ → Type 0 where
+  nothing : amount_of (called n) v c ≡ None → Gives n v c []
+  one : (z : ℤ) → amount_of (called n) v c ≡ Some (made_of n z []) → (is_distinct n ≡ true → v ≡ Some z) → Gives n v c (z ∷ [])
+
+pub gives : (n : Name) (p q : Cell) → Gives n (cell_value p) (cell_value q) (taken_by n p q)
+unfolding taken_by value product weight_of cell_value amount_of product_if made_of total smallest largest ascending into called distinct_of
+gives Rows p q = one (pos 1) refl false_true
 gives Count null q = nothing refl
-gives Count (num v) q = one v refl refl (λ d. refl)
+gives Count (num v) q = one v refl (λ d. refl)
 gives Sum null q = nothing refl
-gives Sum (num v) q = one v refl (sym (+ℤ_idr v)) (λ d. refl)
+gives Sum (num v) q = one v (ap Some (sym (+ℤ_idr v))) (λ d. refl)
 gives Least null q = nothing refl
-gives Least (num v) q = one v refl refl (λ d. refl)
+gives Least (num v) q = one v refl (λ d. refl)
 gives Greatest null q = nothing refl
-gives Greatest (num v) q = one v refl refl (λ d. refl)
+gives Greatest (num v) q = one v refl (λ d. refl)
 gives DistinctSum null q = nothing refl
-gives DistinctSum (num v) q = one v refl (sym (+ℤ_idr v)) (λ d. refl)
+gives DistinctSum (num v) q = one v (ap Some (sym (+ℤ_idr v))) (λ d. refl)
 gives DistinctCount null q = nothing refl
-gives DistinctCount (num v) q = one v refl refl (λ d. refl)
+gives DistinctCount (num v) q = one v refl (λ d. refl)
 gives WeightedSum null q = nothing refl
 gives WeightedSum (num v) null = nothing refl
-gives WeightedSum (num v) (num c) = one (v *ℤ c) refl (sym (+ℤ_idr (v *ℤ c))) false_true
+gives WeightedSum (num v) (num c) = one (v *ℤ c) (ap Some (sym (+ℤ_idr (v *ℤ c)))) false_true
 gives WeightedCount null q = nothing refl
 gives WeightedCount (num v) null = nothing refl
-gives WeightedCount (num v) (num c) = one c refl (sym (+ℤ_idr c)) false_true
+gives WeightedCount (num v) (num c) = one c (ap Some (sym (+ℤ_idr c))) false_true
 
 -- the size of what a row adds is the most that is made of its values
-pub given_size : {n : Name} {v : ℤ} {v_mark : ℕ} {c : ℤ} {c_mark : ℕ} {ys : List ℤ} → Gives n v v_mark c c_mark ys
-    → size_of (name_number n) v v_mark c c_mark ≤ most_of n ys
-unfolding size_of
+pub given_size : {n : Name} {v c : Option ℤ} {ys : List ℤ} → Gives n v c ys → size_if (amount_of (called n) v c) ≤ most_of n ys
+unfolding size_if
 given_size (nothing s) = rw s (omega arith)
-given_size {n} (one z s a same) = rw (s, a) (made-size n z [])
+given_size {n} (one z s same) = rw s (made-size n z [])
 
 -- the values of rows after others, and of one row more
 pub values_append : (a : Aggregate) (s t : Table) → values_of a (s ++ t) ≡ values_of a s ++ values_of a t

@@ -7,7 +7,8 @@ use Rattle.meaning.specs.Plans.{Name, Rows, Count, Sum, Least, Greatest, Distinc
 use Rattle.meaning.specs.Aggregating.{total, smallest, largest, into, ascending, made_of, answer}
 use Rattle.meaning.specs.Running.{cell_number}
 use Rattle.numbers.specs.Integers.{abs_add}
-use Rattle.running.specs.Values.{none_number}
+use Rattle.running.specs.States.{size_if}
+use Rattle.running.specs.Values.{made_if, none_number}
 
 -- the sizes of values, signs dropped, added up
 unfoldable pub sizes_of : List ℤ → ℕ
@@ -114,3 +115,9 @@ pub answer-size : (n : Name) (xs : List ℤ) → nat_abs (cell_number (answer n 
 unfolding answer cell_number
 answer-size n [] = rw (none_number n) (omega arith)
 answer-size n (x ∷ xs) = made-size n x xs
+
+-- and so is what a state holds of them
+pub held_size : (n : Name) (xs : List ℤ) → size_if (made_if n xs) ≤ most_of n xs
+unfolding size_if made_if
+held_size n [] = omega arith
+held_size n (x ∷ xs) = made-size n x xs

@@ -1,86 +1,90 @@
 -- One law for each way out of a method: the state that the code makes there is the definition's.
-use Rattle.std.specs.Prelude.{◌≡◌, refl, Bool, true, false, ◌&&◌, ℕ, ◌+◌, ◌<◌, ◌^◌, ℤ, pos, nat_abs}
-use Rattle.std.proofs.Common.{sym, ◌∙◌}
-use Rattle.meaning.specs.Cells.{eq_z}
+use Rattle.std.specs.Prelude.{◌≡◌, refl, Bool, true, false, ◌&&◌, ℕ, ◌+◌, ◌<◌, ◌^◌, ℤ, nat_abs, Option, Some, None, option_map}
+use Rattle.std.specs.Option.{option_eq, option_or}
+use Rattle.std.specs.Ordering.{int_eq}
+use Rattle.std.specs.Cmp.{signed_Decides}
+use Rattle.std.proofs.Common.{sym, ap, ◌∙◌}
+use Rattle.lists.specs.Tests.{and_left, and_right}
 use Rattle.numbers.specs.Integers.{false_true}
 use Rattle.running.specs.declared.Running.{Running}
-use Rattle.running.specs.declared.Finished.{Finished}
-use Rattle.running.specs.States.{distinct_of, repeats_of, takes_of, amount_of, combine_of, take_of, add_to, size_of, Room, merge_of, empty_mark_of, finish_of}
-use Rattle.numbers.specs.Same.{eq_z_true, eq_eq_z}
+use Rattle.running.specs.declared.Taken.{Taken}
+use Rattle.running.specs.States.{distinct_of, ends_with, repeats_of, amount_of, value_of, take_of, add_amount, add_to, size_if, Room, take_both, merge_of, empty_of, finish_of}
+
+-- the v taken last
+unfoldable pub last_in : Option Taken → Option ℤ
+last_in None = None
+last_in (Some t) = t.last
 
 -- what the test of a repeated value says where it is met, and where not
-repeats_cases : (l v : ℤ) (a b d : Bool) → eq_z l v ≡ b → (a && (b && d)) ≡ true → (a ≡ true) × (l ≡ v) × (d ≡ true)
-repeats_cases l v true true d e h = (refl, eq_z_true l v e, h)
-repeats_cases l v true false d e h = false_true h
-repeats_cases l v false b d e h = false_true h
+same_yes : (l : Option ℤ) (z : ℤ) → option_eq int_eq l (Some z) ≡ true → l ≡ Some z
+same_yes None z h = false_true h
+same_yes (Some x) z h = ap Some ((signed_Decides x z).0 h)
 
-pub repeats_yes : (name : ℕ) (some : Bool) (l v : ℤ) → repeats_of name some l v ≡ true
-    → (some ≡ true) × (l ≡ v) × (distinct_of name ≡ true)
-unfolding repeats_of
-repeats_yes name some l v h = repeats_cases l v some (eq_z l v) (distinct_of name) refl h
+same_no : (l : Option ℤ) (z : ℤ) → option_eq int_eq l (Some z) ≡ false → l ≡ Some z → ⊥
+same_no None z h e = cc
+same_no (Some x) z h e = false_true (sym h ∙ (signed_Decides x z).1 cc)
 
-pub repeats_no : (name : ℕ) (some : Bool) (l v : ℤ) → repeats_of name some l v ≡ false
-    → some ≡ true → distinct_of name ≡ true → l ≡ v → ⊥
-unfolding repeats_of
-repeats_no name some l v h s d e = false_true (sym h ∙ simp (s, d, eq_eq_z l v e))
+ends_yes : (o : Option Taken) (z : ℤ) → ends_with o (Some z) ≡ true → last_in o ≡ Some z
+unfolding ends_with last_in
+ends_yes None z h = false_true h
+ends_yes (Some t) z h = same_yes t.last z h
 
--- a state that has taken a value, by its value and its last v
-running_eq : {name : ℕ} {x y l m : ℤ} → x ≡ y → l ≡ m
-    → ◌≡◌ {A = Running} (record { name = name; some = true; value = x; last = l }) (record { name = name; some = true; value = y; last = m })
-running_eq e f = cc
+ends_no : (o : Option Taken) (z : ℤ) → ends_with o (Some z) ≡ false → last_in o ≡ Some z → ⊥
+unfolding ends_with last_in
+ends_no None z h e = cc
+ends_no (Some t) z h e = same_no t.last z h e
 
--- `add`: the row is not taken; it repeats the last one; it is taken. b and y are what a call gave; l, w, x, u and a are cells as they
--- come back from their bits
-module _ (st : Running) (v : ℤ) (v_mark : ℕ) (c : ℤ) (c_mark : ℕ) where
-  pub add_not-taken : takes_of st.name v_mark c_mark ≡ false → st ≡ add_to st v v_mark c c_mark
-  unfolding add_to
-  add_not-taken t = rw t
+module _ (st : Running) where
+  pub repeats_yes : (z : ℤ) → repeats_of st (Some z) ≡ true → (distinct_of st.name ≡ true) × (last_in st.taken ≡ Some z)
+  unfolding repeats_of
+  repeats_yes z h = (and_left _ _ h, ends_yes st.taken z (and_right _ _ h))
 
-  pub add_repeated : {b : Bool} {l w : ℤ} → takes_of st.name v_mark c_mark ≡ true
-      → b ≡ repeats_of st.name st.some l w → b ≡ true → l ≡ st.last → w ≡ v
-      → st ≡ add_to st v v_mark c c_mark
-  unfolding add_to
-  add_repeated t e r el ew = rw (t, rw (el, ew) at (sym e ∙ r))
+  pub repeats_distinct : (v : Option ℤ) → repeats_of st v ≡ true → distinct_of st.name ≡ true
+  unfolding repeats_of
+  repeats_distinct v h = and_left _ _ h
 
-  pub add_taken : {b : Bool} {l w x y u a : ℤ} → takes_of st.name v_mark c_mark ≡ true
-      → b ≡ repeats_of st.name st.some l w → b ≡ false → l ≡ st.last → w ≡ v
-      → x ≡ y → y ≡ combine_of st.name st.some u a → u ≡ st.value → a ≡ amount_of st.name v c
-      → record { name = st.name; some = true; value = x; last = w } ≡ add_to st v v_mark c c_mark
-  unfolding add_to take_of
-  add_taken t e r el ew ex ey eu ea = rw (t, rw (el, ew) at (sym e ∙ r)) (running_eq (ex ∙ (rw (eu, ea) at ey)) ew)
+  pub repeats_no : (z : ℤ) → repeats_of st (Some z) ≡ false → distinct_of st.name ≡ true → last_in st.taken ≡ Some z → ⊥
+  unfolding repeats_of
+  repeats_no z h d e = ends_no st.taken z (rw d at h) e
 
-  -- what a row that is taken has room for
-  pub room-taken : takes_of st.name v_mark c_mark ≡ true → Room st v v_mark c c_mark
-      → nat_abs st.value + nat_abs (amount_of st.name v c) < 2 ^ 63
-  unfolding size_of
-  room-taken t r = rw t at r.small
+  -- `add`: the row is not taken; it repeats the last one; it is taken
+  module _ (v c : Option ℤ) where
+    pub add_not-taken : amount_of st.name v c ≡ None → st ≡ add_to st v c
+    unfolding add_to add_amount
+    add_not-taken t = rw t
+
+    pub add_repeated : {x : ℤ} → amount_of st.name v c ≡ Some x → repeats_of st v ≡ true → st ≡ add_to st v c
+    unfolding add_to add_amount
+    add_repeated t r = rw (t, r)
+
+    pub add_taken : {x : ℤ} → amount_of st.name v c ≡ Some x → repeats_of st v ≡ false → take_of st x v ≡ add_to st v c
+    unfolding add_to add_amount
+    add_taken t r = rw (t, r)
+
+    -- what a row that is taken has room for
+    pub room-taken : {x : ℤ} → amount_of st.name v c ≡ Some x → Room st v c → size_if (value_of st) + nat_abs x < 2 ^ 63
+    unfolding size_if
+    room-taken t r = rw t at r.small
 
 -- `merge`: a distinct one; the other has taken nothing; both values are combined
 module _ (a b : Running) where
-  pub merge_distinct : {d : Bool} → d ≡ distinct_of a.name → d ≡ true → a ≡ merge_of a b
+  pub merge_distinct : distinct_of a.name ≡ true → a ≡ merge_of a b
   unfolding merge_of
-  merge_distinct e t = rw (sym e ∙ t)
+  merge_distinct d = rw d
 
-  pub merge_none : {d : Bool} → d ≡ distinct_of a.name → d ≡ false → b.some ≡ false → a ≡ merge_of a b
-  unfolding merge_of
-  merge_none e t s = rw (sym e ∙ t, s)
+  pub merge_none : distinct_of a.name ≡ false → b.taken ≡ None → a ≡ merge_of a b
+  unfolding merge_of take_both
+  merge_none d t = rw (d, t)
 
-  pub merge_some : {d : Bool} {x y u w l : ℤ} → d ≡ distinct_of a.name → d ≡ false → b.some ≡ true
-      → x ≡ y → y ≡ combine_of a.name a.some u w → u ≡ a.value → w ≡ b.value → l ≡ b.last
-      → record { name = a.name; some = true; value = x; last = l } ≡ merge_of a b
-  unfolding merge_of
-  merge_some e t s ex ey eu ew el = rw (sym e ∙ t, s) (running_eq (ex ∙ (rw (eu, ew) at ey)) el)
+  pub merge_some : {t : Taken} → distinct_of a.name ≡ false → b.taken ≡ Some t → take_of a t.value t.last ≡ merge_of a b
+  unfolding merge_of take_both
+  merge_some d t = rw (d, t)
 
 -- `finish`: the value, or what the rule table says
-finished_eq : {st : Running} {x y : ℤ} {m n : ℕ} → x ≡ y → m ≡ n
-    → ◌≡◌ {A = Finished} (record { state = st; cell = x; mark = m }) (record { state = st; cell = y; mark = n })
-finished_eq e f = cc
-
-pub finish_some : (st : Running) {x : ℤ} → st.some ≡ true → x ≡ st.value → record { state = st; cell = x; mark = 0 } ≡ finish_of st
+pub finish_some : (st : Running) {x : ℤ} → value_of st ≡ Some x → Some x ≡ finish_of st
 unfolding finish_of
-finish_some st s e = finished_eq (e ∙ rw s) (rw s)
+finish_some st e = rw e
 
-pub finish_none : (st : Running) {m : ℕ} → st.some ≡ false → m ≡ empty_mark_of st.name
-    → record { state = st; cell = pos 0; mark = m } ≡ finish_of st
+pub finish_none : (st : Running) → value_of st ≡ None → empty_of st.name ≡ finish_of st
 unfolding finish_of
-finish_none st s e = finished_eq (rw s) (e ∙ rw s)
+finish_none st e = rw e

@@ -1,5 +1,5 @@
 -- What an aggregate makes and answers of values that come after others.
-use Rattle.std.specs.Prelude.{◌≡◌, refl, Bool, true, false, cond, List, [], ◌∷◌, ◌++◌, length, ℤ, pos, ◌+ℤ◌}
+use Rattle.std.specs.Prelude.{◌≡◌, refl, Bool, true, false, cond, List, [], ◌∷◌, ◌++◌, length, ℤ, pos, ◌+ℤ◌, Option, Some, None}
 use Rattle.std.proofs.Common.{sym, ap, ◌∙◌, length-append}
 use Rattle.std.proofs.Math.IntN.{+ℤ_idl, +ℤ_assoc}
 use Rattle.std.specs.Int.Signed.{lt_z}
@@ -7,25 +7,11 @@ use Rattle.meaning.specs.Cells.{num}
 use Rattle.meaning.specs.Plans.{Name, Rows, Count, Sum, Least, Greatest, DistinctSum, DistinctCount, WeightedSum, WeightedCount}
 use Rattle.meaning.specs.Rules.{rule}
 use Rattle.meaning.specs.Aggregating.{total, smallest, largest, into, ascending, made_of, answer}
-use Rattle.meaning.specs.Arrangement.{name_number}
-use Rattle.meaning.specs.Running.{cell_number}
 use Rattle.numbers.specs.Integers.{lt_trans, nlt_trans, nlt_antisym}
-use Rattle.running.specs.States.{distinct_of, combine_of}
-use Rattle.running.specs.Ascent.{upwards_from, upwards, last_from, last_of, upwards-front, upwards-last, ascending_new, ascending-same}
-
--- whether a name is that of a distinct aggregate
-abbrev pub is_distinct : Name → Bool
-is_distinct n = distinct_of (name_number n)
-
--- whether there is a value
-unfoldable pub is_any : List ℤ → Bool
-is_any [] = false
-is_any (x ∷ xs) = true
-
-pub any-more : (xs : List ℤ) (y : ℤ) (ys : List ℤ) → is_any (xs ++ y ∷ ys) ≡ true
-unfolding is_any
-any-more [] y ys = refl
-any-more (x ∷ xs) y ys = refl
+use Rattle.meaning.specs.Running.{cell_number}
+use Rattle.running.specs.States.{distinct_of, combine_of, combine_if}
+use Rattle.running.specs.Names.{called, is_distinct}
+use Rattle.running.specs.Ascent.{upwards_from, upwards, last_from, last_if, upwards-front, upwards-last, ascending_new, ascending-same}
 
 -- "a distinct one with its values ascending"; neighbours may be equal
 abbrev pub Rises : Name → List ℤ → Type 0
@@ -95,8 +81,8 @@ largest-append x (u ∷ us) y ys = largest-append (choose above x u) us y ys
 
 -- unless distinct, what is made of values after others is both made apart, combined
 made-append : (n : Name) (x : ℤ) (xs : List ℤ) (y : ℤ) (ys : List ℤ) → is_distinct n ≡ false
-    → made_of n x (xs ++ y ∷ ys) ≡ combine_of (name_number n) true (made_of n x xs) (made_of n y ys)
-unfolding made_of combine_of name_number distinct_of
+    → made_of n x (xs ++ y ∷ ys) ≡ combine_of (called n) (made_of n x xs) (made_of n y ys)
+unfolding made_of combine_of called distinct_of
 made-append Rows x xs y ys d = count-append (x ∷ xs) (y ∷ ys)
 made-append Count x xs y ys d = count-append (x ∷ xs) (y ∷ ys)
 made-append Sum x xs y ys d = total-append (x ∷ xs) (y ∷ ys)
@@ -109,8 +95,8 @@ made-append WeightedCount x xs y ys d = total-append (x ∷ xs) (y ∷ ys)
 
 -- a distinct one: a value above the last is combined; the last once more changes nothing
 made_new : (n : Name) (x : ℤ) (xs : List ℤ) (z : ℤ) → is_distinct n ≡ true → upwards_from x xs ≡ true → lt_z (last_from x xs) z ≡ true
-    → made_of n x (xs ++ z ∷ []) ≡ combine_of (name_number n) true (made_of n x xs) (made_of n z [])
-unfolding made_of combine_of name_number distinct_of ascending into
+    → made_of n x (xs ++ z ∷ []) ≡ combine_of (called n) (made_of n x xs) (made_of n z [])
+unfolding made_of combine_of called distinct_of ascending into
 made_new Rows x xs z d h k = cc
 made_new Count x xs z d h k = cc
 made_new Sum x xs z d h k = cc
@@ -123,7 +109,7 @@ made_new WeightedSum x xs z d h k = cc
 made_new WeightedCount x xs z d h k = cc
 
 made-same : (n : Name) (x : ℤ) (xs : List ℤ) (z : ℤ) → is_distinct n ≡ true → last_from x xs ≡ z → made_of n x (xs ++ z ∷ []) ≡ made_of n x xs
-unfolding made_of name_number distinct_of
+unfolding made_of called distinct_of
 made-same Rows x xs z d e = cc
 made-same Count x xs z d e = cc
 made-same Sum x xs z d e = cc
@@ -133,6 +119,46 @@ made-same DistinctSum x xs z d e = ap total (ascending-same x xs z e)
 made-same DistinctCount x xs z d e = ap (λ (l : List ℤ). pos (length l)) (ascending-same x xs z e)
 made-same WeightedSum x xs z d e = cc
 made-same WeightedCount x xs z d e = cc
+
+-- what is made of values, where there are any
+unfoldable pub made_if : Name → List ℤ → Option ℤ
+made_if n [] = None
+made_if n (x ∷ xs) = Some (made_of n x xs)
+
+-- what is made of values after others: unless distinct, that of the values before combined with what is made of these
+pub answer-both : (n : Name) (xs : List ℤ) (y : ℤ) (ys : List ℤ) → is_distinct n ≡ false
+    → Some (combine_if (called n) (made_if n xs) (made_of n y ys)) ≡ made_if n (xs ++ y ∷ ys)
+unfolding combine_if made_if
+answer-both n [] y ys d = refl
+answer-both n (x ∷ xs) y ys d = ap Some (sym (made-append n x xs y ys d))
+
+-- what is not below and not the same is above
+above-last : (z l : ℤ) → lt_z z l ≡ false → (l ≡ z → ⊥) → lt_z l z ≡ true
+above-last z l h n = pick (lt_z l z) refl
+  where
+    pick : (b : Bool) → lt_z l z ≡ b → lt_z l z ≡ true
+    pick true e = e
+    pick false e = absurd (n (nlt_antisym l z e h))
+
+-- over one value more, which is not the last again where the aggregate is distinct
+pub answer_new : (n : Name) (xs : List ℤ) (z : ℤ) → Rises n (xs ++ z ∷ []) → (is_distinct n ≡ true → last_if xs ≡ Some z → ⊥)
+    → Some (combine_if (called n) (made_if n xs) (made_of n z [])) ≡ made_if n (xs ++ z ∷ [])
+unfolding combine_if made_if upwards last_if
+answer_new n [] z h k = refl
+answer_new n (x ∷ xs) z h k = ap Some (pick (is_distinct n) refl)
+  where
+    pick : (b : Bool) → is_distinct n ≡ b → combine_of (called n) (made_of n x xs) (made_of n z []) ≡ made_of n x (xs ++ z ∷ [])
+    pick true d =
+        sym
+        (made_new n x xs z d (upwards-front x xs (z ∷ []) (h d))
+        (above-last z (last_from x xs) (upwards-last x xs z (h d)) (λ e. k d (ap Some e))))
+    pick false d = sym (made-append n x xs z [] d)
+
+-- the last value once more changes nothing that a distinct one makes
+pub answer-same : (n : Name) (xs : List ℤ) (z : ℤ) → is_distinct n ≡ true → last_if xs ≡ Some z → made_if n xs ≡ made_if n (xs ++ z ∷ [])
+unfolding made_if last_if
+answer-same n [] z d e = cc
+answer-same n (x ∷ xs) z d e = ap Some (sym (made-same n x xs z d cc))
 
 -- the answer with no value is 0 or null
 pub none_number : (n : Name) → cell_number (rule n).no_value ≡ pos 0
@@ -146,39 +172,3 @@ none_number DistinctSum = refl
 none_number DistinctCount = refl
 none_number WeightedSum = refl
 none_number WeightedCount = refl
-
--- the answer over values after others: unless distinct, that of the values before combined with what is made of these
-pub answer-both : (n : Name) (xs : List ℤ) (y : ℤ) (ys : List ℤ) → is_distinct n ≡ false
-    → combine_of (name_number n) (is_any xs) (cell_number (answer n xs)) (made_of n y ys) ≡ cell_number (answer n (xs ++ y ∷ ys))
-unfolding is_any combine_of answer cell_number
-answer-both n [] y ys d = refl
-answer-both n (x ∷ xs) y ys d = sym (made-append n x xs y ys d)
-
--- what is not below and not the same is above
-above-last : (z l : ℤ) → lt_z z l ≡ false → (l ≡ z → ⊥) → lt_z l z ≡ true
-above-last z l h n = pick (lt_z l z) refl
-  where
-    pick : (b : Bool) → lt_z l z ≡ b → lt_z l z ≡ true
-    pick true e = e
-    pick false e = absurd (n (nlt_antisym l z e h))
-
--- over one value more, which is not the last again where the aggregate is distinct
-pub answer_new : (n : Name) (xs : List ℤ) (z : ℤ) → Rises n (xs ++ z ∷ []) → (is_any xs ≡ true → is_distinct n ≡ true → last_of xs ≡ z → ⊥)
-    → combine_of (name_number n) (is_any xs) (cell_number (answer n xs)) (made_of n z []) ≡ cell_number (answer n (xs ++ z ∷ []))
-unfolding is_any combine_of answer cell_number upwards last_of
-answer_new n [] z h k = refl
-answer_new n (x ∷ xs) z h k = pick (is_distinct n) refl
-  where
-    pick : (b : Bool) → is_distinct n ≡ b → combine_of (name_number n) true (made_of n x xs) (made_of n z []) ≡ made_of n x (xs ++ z ∷ [])
-    pick true d =
-        sym
-        (made_new n x xs z d (upwards-front x xs (z ∷ []) (h d))
-        (above-last z (last_from x xs) (upwards-last x xs z (h d)) (k refl d)))
-    pick false d = sym (made-append n x xs z [] d)
-
--- the last value once more changes no answer of a distinct one
-pub answer-same : (n : Name) (xs : List ℤ) (z : ℤ) → is_any xs ≡ true → is_distinct n ≡ true → last_of xs ≡ z
-    → answer n xs ≡ answer n (xs ++ z ∷ [])
-unfolding is_any answer last_of
-answer-same n [] z a d e = cc
-answer-same n (x ∷ xs) z a d e = ap num (sym (made-same n x xs z d e))

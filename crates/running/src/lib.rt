@@ -1,169 +1,154 @@
 #![tactic(auto)]
 
 // A running aggregate: a state that takes rows one at a time, is merged with another, and answers.
-// Names by number: 0 count of rows, 1 count, 2 sum, 3 least, 4 greatest, 5 distinct sum, 6 distinct count, 7 weighted sum, 8 weighted count.
 ghost use Rattle.std.specs.Prelude.{◌≡◌, ◌+◌, ◌<◌, ◌^◌, nat_abs};
-ghost use Rattle.running.specs.States.{distinct_of, repeats_of, takes_of, amount_of, combine_of, start_of, add_to, Room, merge_of, RoomForBoth, empty_mark_of, finish_of};
+ghost use Rattle.rules.specs.Named.{named};
+ghost use Rattle.running.specs.States.{distinct_of, repeats_of, size_if, amount_of, combine_of, empty_of, start_of, value_of, take_of, add_to, Room, merge_of, RoomForBoth, finish_of};
 
-// The number of the aggregate's name; whether a value was taken; the count, sum, least or greatest so far; the v taken last.
-#[derive(Clone, Copy)]
-pub struct Running {
-    pub name: u8,
-    pub some: bool,
+use rules::Name;
+
+/// What the rows so far came to: their count, sum, least or greatest; and the v taken last, None in a count of rows where it is null.
+#[derive(Clone, Copy, Debug, PartialEq, Eq)]
+pub struct Taken {
     pub value: i64,
-    pub last: i64,
+    pub last: Option<i64>,
 }
 
-// The state handed back, and its answer; a null is cell 0 with mark 1.
-#[derive(Drop)]
-pub struct Finished {
-    pub state: Running,
-    pub cell: i64,
-    pub mark: u8,
+/// The aggregate's name, and what it has taken, None before the first row that is taken.
+#[derive(Clone, Copy, Debug, PartialEq, Eq)]
+pub struct Running {
+    pub name: Name,
+    pub taken: Option<Taken>,
 }
 
 // Whether the name is that of a distinct aggregate.
-pub fn distinct(name: u8) -> bool
+#[tactic(auto, unfolding(crate::specs::States::distinct_of))]
+fn is_distinct(name: Name) -> bool
     ensures { result ≡ distinct_of name }
 {
-    match name {
-        5 => true,
-        6 => true,
-        _ => false,
-    }
+    matches!(name, Name::DistinctSum | Name::DistinctCount)
 }
 
-// Whether a distinct aggregate has taken v already: its values ascend, so v would be the last one.
-fn repeats(name: u8, some: bool, last: i64, v: i64) -> bool
-    ensures { result ≡ repeats_of name some last v }
+/// Whether the number is that of a distinct aggregate.
+pub fn distinct(name: u8) -> bool
+    ensures { result ≡ distinct_of (named name) }
 {
-    if !some {
-        return false;
-    }
-    if last != v {
-        return false;
-    }
-    distinct(name)
+    is_distinct(Name::from(name))
 }
 
-// Whether a row whose v and c have these marks is taken.
-fn takes(name: u8, v_mark: u8, c_mark: u8) -> bool
-    ensures { result ≡ takes_of name v_mark c_mark }
-{
-    match name {
-        0 => true,
-        1..=6 => v_mark == 0,
-        _ => v_mark == 0 && c_mark == 0,
-    }
-}
-
-// By how much a row that is taken counts.
-fn amount(name: u8, v: i64, c: i64) -> i64
-    requires { nat_abs (amount_of name v c) < 2 ^ 63 }
+// By how much a row with these cells v and c counts, None where it is not taken.
+#[tactic(auto, unfolding(crate::specs::States::amount_of, crate::specs::States::size_if, crate::specs::States::product_if))]
+fn amount(name: Name, v: Option<i64>, c: Option<i64>) -> Option<i64>
+    requires { size_if (amount_of name v c) < 2 ^ 63 }
     ensures { result ≡ amount_of name v c }
 {
     match name {
-        0 => 1,
-        1 => 1,
-        6 => 1,
-        7 => v * c,
-        8 => c,
-        _ => v,
+        Name::Rows => Some(1),
+        Name::Count | Name::DistinctCount => v.map(|_| 1),
+        Name::Sum | Name::Least | Name::Greatest | Name::DistinctSum => v,
+        Name::WeightedSum => Some(v? * c?),
+        Name::WeightedCount => v.and(c),
+        Name::Other => c.and(v),
     }
 }
 
 // The value with one amount more.
-fn combine(name: u8, some: bool, value: i64, x: i64) -> i64
+#[tactic(auto, unfolding(crate::specs::States::combine_of))]
+fn combine(name: Name, value: i64, x: i64) -> i64
     requires { nat_abs value + nat_abs x < 2 ^ 63 }
-    ensures { result ≡ combine_of name some value x }
+    ensures { result ≡ combine_of name value x }
 {
-    if !some {
-        return x;
-    }
     match name {
-        3 => if x < value { x } else { value },
-        4 => if value < x { x } else { value },
+        Name::Least => value.min(x),
+        Name::Greatest => value.max(x),
         _ => value + x,
     }
 }
 
-// The mark of the answer with no value, as the rule table has it.
-fn empty_mark(name: u8) -> u8
-    ensures { result ≡ empty_mark_of name }
+// The answer with no value, as the rule table has it: 0, or None for null.
+#[tactic(auto, unfolding(crate::specs::States::empty_of))]
+fn empty(name: Name) -> Option<i64>
+    ensures { result ≡ empty_of name }
 {
-    match rules::entry(name as usize, 1) {
-        0 => 0,
-        _ => 1,
+    match rules::entry(name as usize, rules::NO_VALUE) {
+        0 => Some(0),
+        _ => None,
     }
 }
 
 impl Running {
-    // The state of an aggregate that has taken nothing.
+    /// The state of an aggregate that has taken nothing, by its number.
+    #[tactic(auto, unfolding(crate::specs::States::start_of))]
     pub fn new(name: u8) -> Running
-        ensures { result ≡ start_of name }
+        ensures { result ≡ start_of (named name) }
     {
         Running {
-            name,
-            some: false,
-            value: 0,
-            last: 0,
+            name: Name::from(name),
+            taken: None,
         }
     }
 
-    // The state after one row more, by its cells v and c and their marks.
-    pub fn add(self, v: i64, v_mark: u8, c: i64, c_mark: u8) -> Running
-        requires { Room self v v_mark c c_mark }
-        ensures { result ≡ add_to self v v_mark c c_mark }
+    // The value so far.
+    #[tactic(auto, unfolding(crate::specs::States::value_of))]
+    fn value(self) -> Option<i64>
+        ensures { result ≡ value_of self }
     {
-        if !takes(self.name, v_mark, c_mark) {
-            return self;
-        }
-        if repeats(self.name, self.some, self.last, v) {
-            return self;
-        }
-        let x = amount(self.name, v, c);
+        self.taken.map(|taken| taken.value)
+    }
+
+    // Whether a distinct aggregate has taken v already: its values ascend, so v would be the last one.
+    #[tactic(auto, unfolding(crate::specs::States::repeats_of, crate::specs::States::ends_with))]
+    fn repeats(self, v: Option<i64>) -> bool
+        ensures { result ≡ repeats_of self v }
+    {
+        is_distinct(self.name) && self.taken.is_some_and(|taken| taken.last == v)
+    }
+
+    // The state with one amount more, and the v that it is of; the first amount is the value itself.
+    #[tactic(auto, unfolding(crate::specs::States::take_of, crate::specs::States::combine_if, crate::specs::States::value_of, crate::specs::States::size_if))]
+    fn take(self, x: i64, last: Option<i64>) -> Running
+        requires { size_if (value_of self) + nat_abs x < 2 ^ 63 }
+        ensures { result ≡ take_of self x last }
+    {
+        let value = match self.taken {
+            Some(taken) => combine(self.name, taken.value, x),
+            None => x,
+        };
         Running {
-            name: self.name,
-            some: true,
-            value: combine(self.name, self.some, self.value, x),
-            last: v,
+            taken: Some(Taken { value, last }),
+            ..self
         }
     }
 
-    // The state over the rows of both, unless distinct.
+    /// The state after one row more, by its cells v and c, None for null.
+    #[tactic(auto, unfolding(crate::specs::States::add_to, crate::specs::States::add_amount, crate::specs::States::size_if))]
+    pub fn add(self, v: Option<i64>, c: Option<i64>) -> Running
+        requires { Room self v c }
+        ensures { result ≡ add_to self v c }
+    {
+        match amount(self.name, v, c) {
+            Some(x) if !self.repeats(v) => self.take(x, v),
+            _ => self,
+        }
+    }
+
+    /// The state over the rows of both, unless distinct.
+    #[tactic(auto, unfolding(crate::specs::States::merge_of, crate::specs::States::take_both, crate::specs::States::size_if, crate::specs::States::value_of))]
     pub fn merge(self, other: Running) -> Running
         requires { RoomForBoth self other }
         ensures { result ≡ merge_of self other }
     {
-        if distinct(self.name) {
-            return self;
-        }
-        if !other.some {
-            return self;
-        }
-        Running {
-            name: self.name,
-            some: true,
-            value: combine(self.name, self.some, self.value, other.value),
-            last: other.last,
+        match other.taken {
+            Some(theirs) if !is_distinct(self.name) => self.take(theirs.value, theirs.last),
+            _ => self,
         }
     }
 
-    // The answer over the rows so far, and the state as it is.
-    pub fn finish(self) -> Finished
-        ensures { result ≡ finish_of self }
+    /// The state as it is, and the answer over the rows so far, None for null.
+    #[tactic(auto, unfolding(crate::specs::States::finish_of))]
+    pub fn finish(self) -> (Running, Option<i64>)
+        ensures { result ≡ record { 0 = self; 1 = finish_of self } }
     {
-        if self.some {
-            return Finished {
-                state: self,
-                cell: self.value,
-                mark: 0,
-            };
-        }
-        Finished {
-            state: self,
-            cell: 0,
-            mark: empty_mark(self.name),
-        }
+        (self, self.value().or(empty(self.name)))
     }
 }
