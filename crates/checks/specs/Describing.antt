@@ -8,6 +8,7 @@ use Rattle.meaning.specs.Plans.{Aggregate, Pair, Join, Plan, leaf, join, group}
 use Rattle.meaning.specs.Columns.{width, kinds, nodes}
 use Rattle.meaning.specs.Arrangement.{join_number, join_bytes, group_bytes}
 use Rattle.meaning.specs.Check.{every_node, node_within, node_columns, left_width}
+use Rattle.refusals.specs.Numbers.{number_if}
 use Rattle.node_bytes.specs.Holding.{Holds, holds_head, holds_to}
 use Rattle.node_bytes.specs.Words.{Bytes}
 use Rattle.node_bytes.specs.Nodes.{byte, join_size, group_size}
@@ -21,7 +22,7 @@ use Rattle.checks.specs.declared.Node.{Node}
 
 -- a node describes a plan whose first node is the f-th of the string
 pub record Described (t : Plan) (f : ℕ) (r : Node) : Type 0 where
-  pub number : r.number ≡ tree_number t
+  pub number : number_if r.refusal ≡ tree_number t
   pub wide : r.width ≡ width t
   pub starts : r.first ≡ f
   pub parted : r.split ≡ left_width t

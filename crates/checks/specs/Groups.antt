@@ -11,6 +11,7 @@ use Rattle.meaning.specs.Columns.{width, kinds, kind_at, aggregate_kind}
 use Rattle.meaning.specs.Arrangement.{group_bytes}
 use Rattle.meaning.specs.Check.{all, every_node, pairs_within, node_within, columns_there, distinct, node_columns, is_join, left_width, node_weights}
 use Rattle.meaning.proofs.Widths.{kinds-long}
+use Rattle.refusals.specs.Numbers.{number_if}
 use Rattle.lists.specs.Each.{map-append}
 use Rattle.lists.specs.Tests.{and_left, and_right}
 use Rattle.node_bytes.specs.Holding.{Holds}
@@ -50,7 +51,7 @@ left-some (group cols aggs i) e j = absurd (let z : ◌≡◌ {A = ℕ} 0 1 = cc
 
 -- the node that the code makes of a grouping
 pub record GroupMade (s : List ℕ) (at : ℕ) (i out : Node) : Type 0 where
-  pub number : out.number ≡ verdict i.number (group_within_at s at) (group_columns_at s at i.width) (group_weights_at s at i.split i.kinds)
+  pub number : number_if out.refusal ≡ verdict (number_if i.refusal) (group_within_at s at) (group_columns_at s at i.width) (group_weights_at s at i.split i.kinds)
   pub wide : out.width ≡ byte s (at + 1) + byte s (at + 2)
   pub starts : out.first ≡ i.first
   pub parted : out.split ≡ 0
@@ -123,7 +124,7 @@ module _ {s : List ℕ} {at : ℕ} {i out : Node} (m : GroupMade s at i out) (co
   unfolding tree_number
   input_fine two three = (not_two _ _ _ two, not_three _ _ _ two three)
 
-  number-group : out.number ≡ tree_number (group cols aggs p)
+  number-group : number_if out.refusal ≡ tree_number (group cols aggs p)
   number-group =
       m.number
       ∙ ap (λ (n : ℕ). verdict n (group_within_at s at) (group_columns_at s at i.width) (group_weights_at s at i.split i.kinds)) d.number
@@ -156,7 +157,7 @@ plain-kinds (suc w) zero l = absurd (omega arith)
 plain-kinds (suc w) (suc n) l = ap (λ (x : List ℕ). 0 ∷ x) (plain-kinds w n (omega arith))
 
 pub record TableMade (n w : ℕ) (out : Node) : Type 0 where
-  pub number : out.number ≡ verdict 0 (up_to most_columns w) true true
+  pub number : number_if out.refusal ≡ verdict 0 (up_to most_columns w) true true
   pub wide : out.width ≡ w
   pub starts : out.first ≡ n
   pub parted : out.split ≡ 0

@@ -14,6 +14,7 @@ use Rattle.meaning.specs.Columns.{width, kinds, nodes}
 use Rattle.meaning.specs.Arrangement.{in_row, cell_bytes, join_number, join_bytes}
 use Rattle.meaning.specs.Check.{every_node, pairs_within, node_within, pairs_there, defaults_there, node_columns, defaults_right, node_weights, left_width}
 use Rattle.meaning.proofs.Widths.{kinds-long}
+use Rattle.refusals.specs.Numbers.{number_if}
 use Rattle.lists.specs.Each.{map-append}
 use Rattle.lists.specs.Tests.{and_left, and_right}
 use Rattle.node_bytes.specs.Holding.{Holds}
@@ -22,7 +23,7 @@ use Rattle.arrangement.proofs.Roots.{join-number, join-pairs, join-lefts, join-r
 use Rattle.node_checks.specs.Weights.{kind_number, defaults_at}
 use Rattle.node_checks.specs.Trees.{pairs-tree, defaults-tree}
 use Rattle.node_checks.specs.Numbers.{join_within_at, counts_right, join_columns_at, join_weights_at, JoinKinds}
-use Rattle.checks.specs.Verdicts.{number_of, tree_number, lesser, verdict, inputs-law, tree-join, not_two, not_three, verdict-same}
+use Rattle.checks.specs.Verdicts.{number_by, tree_number, lesser, verdict, inputs-law, tree-join, not_two, not_three, verdict-same}
 use Rattle.checks.specs.Describing.{Described}
 use Rattle.checks.specs.declared.Node.{Node}
 
@@ -62,12 +63,12 @@ unfolding tree_number
 inputs_fine p q two three =
     (not_two _ _ _ (λ e. two (sym law ∙ e)), not_three _ _ _ (λ e. two (sym law ∙ e)) (λ e. three (sym law ∙ e)))
   where
-    law : number_of (every_node node_within p && every_node node_within q) (every_node node_columns p && every_node node_columns q) (every_node node_weights p && every_node node_weights q) ≡ lesser (number_of (every_node node_within p) (every_node node_columns p) (every_node node_weights p)) (number_of (every_node node_within q) (every_node node_columns q) (every_node node_weights q))
+    law : number_by (every_node node_within p && every_node node_within q) (every_node node_columns p && every_node node_columns q) (every_node node_weights p && every_node node_weights q) ≡ lesser (number_by (every_node node_within p) (every_node node_columns p) (every_node node_weights p)) (number_by (every_node node_within q) (every_node node_columns q) (every_node node_weights q))
     law = inputs-law (every_node node_within p) (every_node node_within q) (every_node node_columns p) (every_node node_columns q) (every_node node_weights p) (every_node node_weights q)
 
 -- the node that the code makes of a join
 pub record JoinMade (s : List ℕ) (at : ℕ) (l r out : Node) : Type 0 where
-  pub number : out.number ≡ verdict (lesser l.number r.number) (join_within_at s at l.width r.width) (join_columns_at s at l.width r.width) (join_weights_at s at l.kinds r.kinds)
+  pub number : number_if out.refusal ≡ verdict (lesser (number_if l.refusal) (number_if r.refusal)) (join_within_at s at l.width r.width) (join_columns_at s at l.width r.width) (join_weights_at s at l.kinds r.kinds)
   pub wide : out.width ≡ l.width + r.width
   pub starts : out.first ≡ l.first
   pub parted : out.split ≡ l.width
@@ -99,7 +100,7 @@ module _ {s : List ℕ} {at : ℕ} {l r out : Node} (m : JoinMade s at l r out) 
   unfolding node_columns
   there c = and_right (pairs_there ps (width p) (width q)) (defaults_there j (width p) (width q)) c
 
-  number-tree : out.number ≡ tree_number (join j ps p q)
+  number-tree : number_if out.refusal ≡ tree_number (join j ps p q)
   number-tree =
       m.number
       ∙ ap (λ (n : ℕ). verdict n (join_within_at s at l.width r.width) (join_columns_at s at l.width r.width) (join_weights_at s at l.kinds r.kinds)) sofar
@@ -108,7 +109,7 @@ module _ {s : List ℕ} {at : ℕ} {l r out : Node} (m : JoinMade s at l r out) 
       ∙ verdict-same (lesser (tree_number p) (tree_number q)) (node_within (join j ps p q)) (node_columns (join j ps p q)) (join_weights_at s at l.kinds r.kinds) (node_weights (join j ps p q)) same
       ∙ sym (tree-join j ps p q)
     where
-      sofar : lesser l.number r.number ≡ lesser (tree_number p) (tree_number q)
+      sofar : lesser (number_if l.refusal) (number_if r.refusal) ≡ lesser (tree_number p) (tree_number q)
       sofar = let a = dl.number in let b = dr.number in cc
 
       same : node_within (join j ps p q) ≡ true → (lesser (tree_number p) (tree_number q) ≡ 2 → ⊥) → node_columns (join j ps p q) ≡ true

@@ -8,12 +8,12 @@ use Rattle.meaning.specs.Check.{refuse, first_of, every_node, node_within, node_
 use Rattle.std.proofs.lemmas.Bool.{eqb-false}
 
 -- the number of three tests: 2, 3 or 4 for the first that fails, else 0
-unfoldable pub number_of : Bool → Bool → Bool → ℕ
-number_of a b c = first_of (refuse 2 (not a) ∷ refuse 3 (not b) ∷ refuse 4 (not c) ∷ [])
+unfoldable pub number_by : Bool → Bool → Bool → ℕ
+number_by a b c = first_of (refuse 2 (not a) ∷ refuse 3 (not b) ∷ refuse 4 (not c) ∷ [])
 
 -- the number of a plan's nodes, its count of nodes and leaves left out
 unfoldable pub tree_number : Plan → ℕ
-tree_number p = number_of (every_node node_within p) (every_node node_columns p) (every_node node_weights p)
+tree_number p = number_by (every_node node_within p) (every_node node_columns p) (every_node node_weights p)
 
 -- of two numbers the one that comes first, 0 being none
 unfoldable pub lesser : ℕ → ℕ → ℕ
@@ -48,10 +48,10 @@ at_both f t false = pick (f true) (f false) t
 
 -- two inputs
 inputs_test : Bool → Bool → Bool → Bool → Bool → Bool → Bool
-inputs_test a a' b b' c c' = eqb (number_of (a && a') (b && b') (c && c')) (lesser (number_of a b c) (number_of a' b' c'))
+inputs_test a a' b b' c c' = eqb (number_by (a && a') (b && b') (c && c')) (lesser (number_by a b c) (number_by a' b' c'))
 
-pub inputs-law : (a a' b b' c c' : Bool) → number_of (a && a') (b && b') (c && c') ≡ lesser (number_of a b c) (number_of a' b' c')
-unfolding both inputs_test number_of first_of refuse lesser
+pub inputs-law : (a a' b b' c c' : Bool) → number_by (a && a') (b && b') (c && c') ≡ lesser (number_by a b c) (number_by a' b' c')
+unfolding both inputs_test number_by first_of refuse lesser
 inputs-law a a' b b' c c' =
     eqb→eq _ _
     (at_both (inputs_test a a' b b' c)
@@ -64,10 +64,10 @@ inputs-law a a' b b' c c' =
 
 -- a node above its inputs
 node_test : Bool → Bool → Bool → Bool → Bool → Bool → Bool
-node_test a x b y c z = eqb (number_of (a && x) (b && y) (c && z)) (verdict (number_of x y z) a b c)
+node_test a x b y c z = eqb (number_by (a && x) (b && y) (c && z)) (verdict (number_by x y z) a b c)
 
-node_law : (a x b y c z : Bool) → number_of (a && x) (b && y) (c && z) ≡ verdict (number_of x y z) a b c
-unfolding both node_test number_of first_of refuse verdict
+node_law : (a x b y c z : Bool) → number_by (a && x) (b && y) (c && z) ≡ verdict (number_by x y z) a b c
+unfolding both node_test number_by first_of refuse verdict
 node_law a x b y c z =
     eqb→eq _ _
     (at_both (node_test a x b y c)
@@ -101,7 +101,7 @@ tree-group cols aggs i =
     (node_weights (group cols aggs i)) (every_node node_weights i)
 
 pub tree-leaf : (t w : ℕ) → tree_number (leaf t w) ≡ cond (node_within (leaf t w)) 0 2
-unfolding tree_number every_node node_columns node_weights number_of first_of refuse
+unfolding tree_number every_node node_columns node_weights number_by first_of refuse
 tree-leaf t w = pick (node_within (leaf t w))
   where
     pick : (a : Bool) → first_of (refuse 2 (not a) ∷ refuse 3 (not true) ∷ refuse 4 (not true) ∷ []) ≡ cond a 0 2
@@ -110,7 +110,7 @@ tree-leaf t w = pick (node_within (leaf t w))
 
 -- the number of a plan: too many nodes or leaves is 2
 pub check_tree : (p : Plan) → check_number p ≡ cond (leb (nodes p) most_nodes && leb (leaves p) most_leaves) (tree_number p) 2
-unfolding check_number within tree_number number_of first_of refuse
+unfolding check_number within tree_number number_by first_of refuse
 check_tree p = pick (leb (nodes p) most_nodes) (leb (leaves p) most_leaves) (every_node node_within p)
   where
     pick : (a b c : Bool)
@@ -121,13 +121,13 @@ check_tree p = pick (leb (nodes p) most_nodes) (leb (leaves p) most_leaves) (eve
     pick false b c = refl
 
 -- what a number of 0 or 4, or any but 2, says of the tests
-pub not_two : (a b c : Bool) → (number_of a b c ≡ 2 → ⊥) → a ≡ true
-unfolding number_of first_of refuse
+pub not_two : (a b c : Bool) → (number_by a b c ≡ 2 → ⊥) → a ≡ true
+unfolding number_by first_of refuse
 not_two true b c n = refl
 not_two false b c n = absurd (n refl)
 
-pub not_three : (a b c : Bool) → (number_of a b c ≡ 2 → ⊥) → (number_of a b c ≡ 3 → ⊥) → b ≡ true
-unfolding number_of first_of refuse
+pub not_three : (a b c : Bool) → (number_by a b c ≡ 2 → ⊥) → (number_by a b c ≡ 3 → ⊥) → b ≡ true
+unfolding number_by first_of refuse
 not_three true true c n m = refl
 not_three true false c n m = absurd (m refl)
 not_three false b c n m = absurd (n refl)

@@ -3,60 +3,50 @@
 // The check of a plan: refusals 1 to 4, in that order over the whole plan.
 ghost use Rattle.std.specs.Prelude.{◌≡◌, ◌+◌, ◌<◌, ◌≤◌, length};
 ghost use Rattle.meaning.specs.Check.{Checks};
+ghost use Rattle.refusals.specs.Numbers.{number_if, number_of};
 ghost use Rattle.node_bytes.specs.Nodes.{join_size, group_size};
 ghost use Rattle.checks.specs.Verdicts.{lesser, verdict};
 ghost use Rattle.checks.specs.Answering.{RootOf};
 ghost use Rattle.checks.specs.Describing.{Standing, Describes, DescribesJoin, DescribesGroup, DescribesTable};
 
-// What a node's parent needs of it: the number of its subtree, its width and kinds, the number of its subtree's first node,
+use refusals::Refusal;
+
+// What a node's parent needs of it: the refusal of its subtree, its width and kinds, the number of its subtree's first node,
 // and the width of its left input where it is a join, else 0.
 #[derive(Drop)]
 pub struct Node {
-    pub number: u32,
+    pub refusal: Option<Refusal>,
     pub width: usize,
     pub first: usize,
     pub split: usize,
     pub kinds: [u8; 16],
 }
 
-// Of two numbers the one that comes first, 0 being none.
+// Of two refusals the one that comes first.
 #[tactic(auto, unfolding(crate::specs::Verdicts::lesser))]
-fn lesser_of(a: u32, b: u32) -> u32
-    ensures { result ≡ lesser a b }
+fn lesser_of(a: Option<Refusal>, b: Option<Refusal>) -> Option<Refusal>
+    ensures { number_if result ≡ lesser (number_if a) (number_if b) }
 {
-    if a == 0 {
-        return b;
+    match (a, b) {
+        (Some(a), Some(b)) => Some(a.min(b)),
+        _ => a.or(b),
     }
-    if b == 0 {
-        return a;
-    }
-    if a < b {
-        return a;
-    }
-    b
 }
 
-// The number of a node whose inputs have the number so far, by its own tests of 2, 3 and 4.
+// The refusal of a node whose inputs have the refusal so far, by its own tests of 2, 3 and 4.
 #[tactic(auto, unfolding(crate::specs::Verdicts::verdict))]
-fn verdict_of(sofar: u32, within: bool, columns: bool, weights: bool) -> u32
-    ensures { result ≡ verdict sofar within columns weights }
+fn verdict_of(sofar: Option<Refusal>, within: bool, columns: bool, weights: bool) -> Option<Refusal>
+    ensures { number_if result ≡ verdict (number_if sofar) within columns weights }
 {
-    if !within {
-        return 2;
+    if !within || sofar == Some(Refusal::Limits) {
+        Some(Refusal::Limits)
+    } else if !columns || sofar == Some(Refusal::Columns) {
+        Some(Refusal::Columns)
+    } else if !weights {
+        Some(Refusal::Weights)
+    } else {
+        sofar
     }
-    if sofar == 2 {
-        return 2;
-    }
-    if !columns {
-        return 3;
-    }
-    if sofar == 3 {
-        return 3;
-    }
-    if !weights {
-        return 4;
-    }
-    sofar
 }
 
 // A table, the n-th node: its columns are plain.
@@ -65,7 +55,7 @@ fn table_node(n: usize, width: usize) -> Node
 {
     let within = node_checks::up_to(16, width);
     Node {
-        number: verdict_of(0, within, true, true),
+        refusal: verdict_of(None, within, true, true),
         width,
         first: n,
         split: 0,
@@ -80,12 +70,12 @@ fn join_node(s: &[u8], at: usize, l: Node, r: Node) -> Node
 {
     let left = l.kinds;
     let right = r.kinds;
-    let sofar = lesser_of(l.number, r.number);
+    let sofar = lesser_of(l.refusal, r.refusal);
     let within = node_checks::join_within(s, at, l.width, r.width);
     let columns = node_checks::join_columns(s, at, l.width, r.width);
     let weights = node_checks::join_weights(s, at, &left, &right);
     Node {
-        number: verdict_of(sofar, within, columns, weights),
+        refusal: verdict_of(sofar, within, columns, weights),
         width: l.width + r.width,
         first: l.first,
         split: l.width,
@@ -103,7 +93,7 @@ fn group_node(s: &[u8], at: usize, i: Node) -> Node
     let columns = node_checks::group_columns(s, at, i.width);
     let weights = node_checks::group_weights(s, at, i.split, &below);
     Node {
-        number: verdict_of(i.number, within, columns, weights),
+        refusal: verdict_of(i.refusal, within, columns, weights),
         width: s[at + 1] as usize + s[at + 2] as usize,
         first: i.first,
         split: 0,
@@ -129,53 +119,40 @@ fn describe(s: &[u8], starts: &[usize; 12], n: usize) -> Node
     join_node(s, at, left, right)
 }
 
-// What a byte string's plan is to a job: its number, and where that is 0 its count of nodes and its root's width.
+// What the plan of a byte string is to a job where it passes: its count of nodes and its root's width.
 #[derive(Drop)]
 pub struct Root {
-    pub number: u32,
     pub nodes: usize,
     pub width: usize,
 }
 
-// The number, node count and width of a byte string's plan.
-pub fn root_of(s: &[u8]) -> Root
+// The node count and width of the plan of a byte string that passes, else the first of 1, 2, 3, 4 that holds.
+pub fn root_of(s: &[u8]) -> Result<Root, Refusal>
     ensures { RootOf s.now result }
 {
     let shape = shapes::shape_of(s);
     if !shape.ok {
-        return Root {
-            number: 1,
-            nodes: 0,
-            width: 0,
-        };
+        return Err(Refusal::NoPlan);
     }
-    if 12 < shape.nodes {
-        return Root {
-            number: 2,
-            nodes: 0,
-            width: 0,
-        };
-    }
-    if 3 < shape.leaves {
-        return Root {
-            number: 2,
-            nodes: 0,
-            width: 0,
-        };
+    if 12 < shape.nodes || 3 < shape.leaves {
+        return Err(Refusal::Limits);
     }
     let starts = shapes::starts(s);
     let root = describe(s, &starts, shape.nodes - 1);
-    Root {
-        number: root.number,
-        nodes: shape.nodes,
-        width: root.width,
+    match root.refusal {
+        Some(refusal) => Err(refusal),
+        None => Ok(Root {
+            nodes: shape.nodes,
+            width: root.width,
+        }),
     }
 }
 
-// The number of a byte string: 0 where it is a plan's that passes, else the first of 1, 2, 3, 4 that holds.
-pub fn check(s: &[u8]) -> u32
-    ensures { Checks s.now result }
+// Whether a byte string is a plan's that passes, else the first of 1, 2, 3, 4 that holds.
+#[tactic(auto, using(crate::specs::Answering::root_checks))]
+pub fn check(s: &[u8]) -> Result<(), Refusal>
+    ensures { Checks s.now (number_of result) }
 {
-    let root = root_of(s);
-    root.number
+    root_of(s)?;
+    Ok(())
 }
