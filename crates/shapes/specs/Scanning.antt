@@ -1,11 +1,12 @@
 -- How far the loops over the nodes of a string have come: the one that counts trees, and the one that notes where nodes start.
 use Rattle.std.specs.Prelude.{◌≡◌, refl, Bool, true, false, cond, List, ℕ, zero, suc, ◌+◌, ◌-◌, ◌<◌, ◌≤◌, eqb, length, get_or, set}
-use Rattle.std.proofs.Common.{sym, ap, ◌∙◌, arith, length-set, get_or-set_same, get_or-set_other, le-leb, lt-ltb, le-ltb, eq-eqb, ne_eqb}
+use Rattle.std.specs.Option.{unwrap_or}
+use Rattle.std.proofs.Common.{sym, ap, ◌∙◌, arith, add-one, length-set, get_or-set_same, get_or-set_other, le-leb, lt-ltb, le-ltb, eq-eqb, ne_eqb}
 use Rattle.std.proofs.Math.Decide.{dec_lt}
 use borrow.Author.Tests.{lt-leb}
 use Rattle.node_bytes.specs.Nodes.{byte, node_size, inputs}
-use Rattle.shapes.specs.Shapes.{no_shape, ended, leaf_count, scan, shape_of, start_of}
-use Rattle.shapes.specs.Sizes.{node-fits, node_past}
+use Rattle.shapes.specs.Shapes.{size_of, no_shape, ended, leaf_count, scan, shape_of, start_of}
+use Rattle.shapes.specs.Sizes.{node-fits}
 
 -- one turn of the scan
 module _ (f : ℕ) (s : List ℕ) (at trees n l : ℕ) where
@@ -94,44 +95,36 @@ module _ {s : List ℕ} {at trees n l : ℕ} (c : Scanned s at trees n l) where
       enough = omega arith
 
 -- a node starts where the one before it ends
-pub start-next : (s : List ℕ) (k : ℕ) → 0 < k → start_of s k ≡ start_of s (k - 1) + node_size s (start_of s (k - 1))
+start-next : (s : List ℕ) (k : ℕ) → start_of s (k + 1) ≡ start_of s k + node_size s (start_of s k)
 unfolding start_of
-start-next s zero h = absurd (omega arith)
-start-next s (suc k) h = let q : suc k - 1 ≡ k = omega arith in simp q
+start-next s k = rw add-one refl
 
--- the loop that notes where nodes start has noted the first k, the last of which starts at `at`
+-- the loop that notes where nodes start has noted the first k, and the next one starts at `at`
 pub record Started (s out : List ℕ) (at k : ℕ) : Type 0 where
   pub each : (j : ℕ) → j < k → get_or out j 0 ≡ start_of s j
-  pub here : at ≡ start_of s (k - 1)
+  pub here : at ≡ start_of s k
   pub within : at ≤ length s
-  pub first : 0 < k
   pub wide : length out ≡ 12
 
-pub started_starts : (s out : List ℕ) → length out ≡ 12 → get_or out 0 0 ≡ 0 → Started s out 0 1
+pub started_starts : (s out : List ℕ) → length out ≡ 12 → Started s out 0 0
 unfolding start_of
-started_starts s out w e = record { each = only; here = refl; within = omega arith; first = omega arith; wide = w }
-  where
-    only : (j : ℕ) → j < 1 → get_or out j 0 ≡ start_of s j
-    only zero h = e
-    only (suc j) h = absurd (omega arith)
+started_starts s out w = record { each = λ j h. absurd (omega arith); here = refl; within = omega arith; wide = w }
 
--- from the end of the string on a node has no size, so a place stays where it is
-pub stays : (s : List ℕ) (at : ℕ) → length s ≤ at → at ≡ at + node_size s at
-stays s at h = omega (arith, node_past s at h)
+-- what a node's size moves a place by: none by nothing
+pub moved : (n : ℕ) → unwrap_or (size_of n) 0 ≡ n
+unfolding size_of
+moved zero = refl
+moved (suc n) = simp (ne_eqb (suc n) 0 (λ z. omega arith))
 
-pub started_step : {s out : List ℕ} {at k at' : ℕ} → Started s out at k → at' ≡ at + node_size s at → k < 12
-    → Started s (set out k at') at' (k + 1)
-started_step {s} {out} {at} {k} {at'} c e h = record {
+pub started_step : {s out : List ℕ} {at k size : ℕ} → Started s out at k → size ≡ unwrap_or (size_of (node_size s at)) 0 → k < 12
+    → Started s (set out k at) (at + size) (k + 1)
+started_step {s} {out} {at} {k} {size} c e h = record {
   each = λ j l. at_index j l (dec_lt j k);
-  here = next ∙ ap (start_of s) (let q : k ≡ k + 1 - 1 = omega arith in q);
-  within = omega (arith, node-fits s at, c.within);
-  first = omega arith;
+  here = ap (λ (n : ℕ). at + n) (e ∙ moved (node_size s at)) ∙ ap (λ (a : ℕ). a + node_size s a) c.here ∙ sym (start-next s k);
+  within = omega (arith, node-fits s at, c.within, moved (node_size s at));
   wide = simp length-set c.wide;
 }
   where
-    next : at' ≡ start_of s k
-    next = e ∙ ap (λ (a : ℕ). a + node_size s a) c.here ∙ sym (start-next s k c.first)
-
-    at_index : (j : ℕ) → j < k + 1 → Dec (j < k) → get_or (set out k at') j 0 ≡ start_of s j
-    at_index j l (yes b) = get_or-set_other out k j at' 0 (λ q. omega arith) ∙ c.each j b
-    at_index j l (no b) = let q : j ≡ k = omega arith in rw q (get_or-set_same out k at' 0 (omega (arith, c.wide)) ∙ next)
+    at_index : (j : ℕ) → j < k + 1 → Dec (j < k) → get_or (set out k at) j 0 ≡ start_of s j
+    at_index j l (yes b) = get_or-set_other out k j at 0 (λ q. omega arith) ∙ c.each j b
+    at_index j l (no b) = let q : j ≡ k = omega arith in rw q (get_or-set_same out k at 0 (omega (arith, c.wide)) ∙ c.here)

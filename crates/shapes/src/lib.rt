@@ -2,15 +2,26 @@
 
 // The shape of a byte string: its nodes, one behind the other, and whether they make one tree.
 ghost use Rattle.std.specs.Prelude.{◌≡◌, ℕ, ◌+◌, ◌*◌, ◌<◌, ◌≤◌, length, get_or};
-ghost use Rattle.node_bytes.specs.Nodes.{cell_good, cells_good, aggregate_good, aggregates_good, join_size, group_size, join_good, group_good, size_if, node_size, inputs};
-ghost use Rattle.shapes.specs.Shapes.{shape_of, start_of};
+ghost use Rattle.node_bytes.specs.Nodes.{byte, cell_good, cells_good, aggregate_good, aggregates_good, join_size, group_size, join_good, group_good, size_if, node_size, inputs};
+ghost use Rattle.node_bytes.specs.Tags.{byte_in};
+ghost use Rattle.shapes.specs.Shapes.{size_of, pads, shape_of, start_of};
 
-// Whether a byte string's nodes make one tree, and if so how many nodes and tables it has.
-#[derive(Drop)]
+use node_bytes::Tag;
+use rules::Name;
+
+/// How many nodes and tables the one tree of a byte string has.
+#[derive(Clone, Copy, Debug, PartialEq, Eq)]
 pub struct Shape {
-    pub ok: bool,
     pub nodes: usize,
     pub leaves: usize,
+}
+
+/// A byte string with the places where its first 12 nodes start.
+#[derive(Clone, Copy)]
+pub struct Nodes<'a> {
+    pub bytes: &'a [u8],
+    pub starts: [usize; 12],
+    pub ghost placed: { (k : ℕ) → k < 12 → get_or starts k 0 ≡ start_of bytes.now k },
 }
 
 // Whether the nine bytes from a place on are a default's.
@@ -19,14 +30,11 @@ fn cell_good(s: &[u8], at: usize) -> bool
     requires { at + 9 ≤ length s.now }
     ensures { result ≡ cell_good s.now at }
 {
-    let mark = s[at];
-    if mark == 0 {
-        return true;
+    match s[at] {
+        0 => true,
+        1 => node_bytes::word(s, at + 1) == 0,
+        _ => false,
     }
-    if mark != 1 {
-        return false;
-    }
-    node_bytes::word(s, at + 1) == 0
 }
 
 // Whether n defaults stand one behind the other from a place on.
@@ -34,33 +42,23 @@ fn cells_good(s: &[u8], from: usize, n: usize) -> bool
     requires { from + 9 * n ≤ length s.now }
     ensures { result ≡ cells_good s.now from n }
 {
-    let mut at = from;
-    let mut left = n;
-    while 0 < left {
-        if !cell_good(s, at) {
-            return false;
-        }
-        at += 9;
-        left -= 1;
-    }
-    true
+    (0..n).all(|i| cell_good(s, from + 9 * i))
 }
 
 // Whether the three bytes from a place on are an aggregate's.
-#[tactic(auto, unfolding(node_bytes::specs::Nodes::aggregate_good))]
+#[tactic(auto, using(rules::specs::Named::says_other, rules::specs::Named::not_other), unfolding(node_bytes::specs::Nodes::aggregate_good))]
 fn aggregate_good(s: &[u8], at: usize) -> bool
     requires { at + 3 ≤ length s.now }
     ensures { result ≡ aggregate_good s.now at }
 {
-    let name = s[at] as usize;
-    if 9 <= name {
+    if Name::from(s[at]) == Name::Other {
         return false;
     }
-    let columns = rules::entry(name, 0);
-    if columns == 0 && s[at + 1] != 0 {
-        return false;
+    match rules::entry(s[at] as usize, rules::COLUMNS) {
+        0 => s[at + 1] == 0 && s[at + 2] == 0,
+        1 => s[at + 2] == 0,
+        _ => true,
     }
-    2 <= columns || s[at + 2] == 0
 }
 
 // Whether n aggregates stand one behind the other from a place on.
@@ -68,107 +66,89 @@ fn aggregates_good(s: &[u8], from: usize, n: usize) -> bool
     requires { from + 3 * n ≤ length s.now }
     ensures { result ≡ aggregates_good s.now from n }
 {
-    let mut at = from;
-    let mut left = n;
-    while 0 < left {
-        if !aggregate_good(s, at) {
-            return false;
-        }
-        at += 3;
-        left -= 1;
-    }
-    true
+    (0..n).all(|i| aggregate_good(s, from + 3 * i))
 }
 
-// The bytes of the join at a place, 0 where there is none.
-fn join_size(s: &[u8], at: usize) -> usize
-    requires { at < length s.now }
-    ensures { result ≡ size_if s.now at (join_size s.now at) (join_good s.now at) }
+// Whether a join has defaults only on the sides that its kind pads.
+#[tactic(auto, unfolding(crate::specs::Shapes::pads))]
+fn pads(tag: Tag, lefts: usize, rights: usize) -> bool
+    ensures { result ≡ pads tag lefts rights }
+{
+    match tag {
+        Tag::FullOuter => true,
+        Tag::LeftOuter => lefts == 0,
+        _ => lefts == 0 && rights == 0,
+    }
+}
+
+// The bytes of the join at a place, if a right one is there.
+fn join_size(s: &[u8], at: usize) -> Option<usize>
+    requires inside { at < length s.now }
+    requires from_inner { 1 ≤ byte s.now at }
+    requires to_full { byte s.now at ≤ 3 }
+    ensures { result ≡ size_of (size_if s.now at (join_size s.now at) (join_good s.now at)) }
 {
     let room = s.len() - at;
     if room < 4 {
-        return 0;
+        return None;
     }
-    let kind = s[at];
     let pairs = s[at + 1] as usize;
     let lefts = s[at + 2] as usize;
     let rights = s[at + 3] as usize;
     let size = 4 + 2 * pairs + 9 * (lefts + rights);
     if room < size {
-        return 0;
+        return None;
     }
-    if kind != 3 && lefts != 0 {
-        return 0;
-    }
-    if kind < 2 && rights != 0 {
-        return 0;
-    }
-    if cells_good(s, at + 4 + 2 * pairs, lefts + rights) {
-        size
-    } else {
-        0
-    }
+    let good = pads(Tag::from(s[at]), lefts, rights)
+        && cells_good(s, at + 4 + 2 * pairs, lefts + rights);
+    good.then_some(size)
 }
 
-// The bytes of the grouping at a place, 0 where there is none.
-fn group_size(s: &[u8], at: usize) -> usize
+// The bytes of the grouping at a place, if a right one is there.
+fn group_size(s: &[u8], at: usize) -> Option<usize>
     requires { at < length s.now }
-    ensures { result ≡ size_if s.now at (group_size s.now at) (group_good s.now at) }
+    ensures { result ≡ size_of (size_if s.now at (group_size s.now at) (group_good s.now at)) }
 {
     let room = s.len() - at;
     if room < 3 {
-        return 0;
+        return None;
     }
     let columns = s[at + 1] as usize;
     let aggregates = s[at + 2] as usize;
     let size = 3 + columns + 3 * aggregates;
     if room < size {
-        return 0;
+        return None;
     }
-    if aggregates_good(s, at + 3 + columns, aggregates) {
-        size
-    } else {
-        0
+    aggregates_good(s, at + 3 + columns, aggregates).then_some(size)
+}
+
+// The bytes of the node at a place, if one is there.
+fn node_size(s: &[u8], at: usize) -> Option<usize>
+    ensures { result ≡ size_of (node_size s.now at) }
+{
+    match Tag::from(*s.get(at)?) {
+        Tag::Table => (3 <= s.len() - at).then_some(3),
+        Tag::Inner | Tag::LeftOuter | Tag::FullOuter => join_size(s, at),
+        Tag::Grouping => group_size(s, at),
+        Tag::Other => None,
     }
 }
 
-// The bytes of the node at a place, 0 where there is none.
-fn node_size(s: &[u8], at: usize) -> usize
-    requires { at < length s.now }
-    ensures { result ≡ node_size s.now at }
+// How many inputs a node takes.
+#[tactic(auto, unfolding(node_bytes::specs::Nodes::inputs))]
+fn takes(tag: Tag) -> usize
+    ensures { result ≡ inputs (byte_in tag) }
 {
-    let tag = s[at];
-    if tag == 0 {
-        if s.len() - at < 3 {
-            return 0;
-        }
-        return 3;
+    match tag {
+        Tag::Table => 0,
+        Tag::Grouping => 1,
+        _ => 2,
     }
-    if tag <= 3 {
-        return join_size(s, at);
-    }
-    if tag == 4 {
-        return group_size(s, at);
-    }
-    0
-}
-
-// How many inputs a node takes, by its first byte.
-fn takes(tag: u8) -> usize
-    ensures { result ≡ inputs tag }
-{
-    if tag == 0 {
-        return 0;
-    }
-    if tag == 4 {
-        return 1;
-    }
-    2
 }
 
 // The shape of a byte string of any length, in one pass that counts the trees that no node has taken yet.
 #[tactic(auto, using(crate::specs::Scanning::scanned_ends), unfolding(crate::specs::Shapes::ended))]
-pub fn shape_of(s: &[u8]) -> Shape
+pub fn shape_of(s: &[u8]) -> Option<Shape>
     ensures { result ≡ shape_of s.now }
 {
     let mut at = 0;
@@ -176,58 +156,29 @@ pub fn shape_of(s: &[u8]) -> Shape
     let mut nodes = 0;
     let mut leaves = 0;
     while at < s.len() {
-        let size = node_size(s, at);
-        if size == 0 {
-            return Shape {
-                ok: false,
-                nodes: 0,
-                leaves: 0,
-            };
-        }
-        let tag = s[at];
-        let taken = takes(tag);
-        if trees < taken {
-            return Shape {
-                ok: false,
-                nodes: 0,
-                leaves: 0,
-            };
-        }
-        trees = trees - taken + 1;
+        let size = node_size(s, at)?;
+        let tag = Tag::from(s[at]);
+        trees = usize::checked_sub(trees, takes(tag))? + 1;
         nodes += 1;
-        if tag == 0 {
+        if tag == Tag::Table {
             leaves += 1;
         }
         at += size;
     }
-    if trees == 1 {
-        Shape {
-            ok: true,
-            nodes,
-            leaves,
-        }
-    } else {
-        Shape {
-            ok: false,
-            nodes: 0,
-            leaves: 0,
-        }
-    }
+    (trees == 1).then_some(Shape { nodes, leaves })
 }
 
-// Where each of the first 12 nodes starts.
-pub fn starts(s: &[u8]) -> [usize; 12]
-    ensures { (k : ℕ) → k < 12 → get_or result k 0 ≡ start_of s.now k }
-{
-    let mut out = [0usize; 12];
-    let mut at = 0;
-    let mut k = 1;
-    while k < 12 {
-        if at < s.len() {
-            at += node_size(s, at);
+impl<'a> Nodes<'a> {
+    /// A byte string of any length, with where each of its first 12 nodes starts.
+    pub fn new(bytes: &'a [u8]) -> Nodes<'a>
+        ensures { result.bytes.now ≡ bytes.now }
+    {
+        let mut starts = [0; 12];
+        let mut at = 0;
+        for k in 0..12 {
+            starts[k] = at;
+            at += node_size(bytes, at).unwrap_or(0);
         }
-        out[k] = at;
-        k += 1;
+        Nodes { bytes, starts }
     }
-    out
 }

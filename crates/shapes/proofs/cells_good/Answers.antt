@@ -1,23 +1,13 @@
--- `shapes::cells_good` tests each default: a walk over things of nine bytes.
-use Rattle.std.proofs.Common.{sym, ◌∙◌}
-use Rattle.node_bytes.specs.Nodes.{cells_good}
-use Rattle.node_bytes.specs.Rows.{walk_starts, walk_passes, walk_fails, walk_ends}
+-- `shapes::cells_good` tests each default: things of nine bytes, one behind the other.
+use Rattle.std.proofs.Common.{rules, refl, ◌∙◌, arith}
+use Rattle.std.proofs.lemmas.Iterator.{YieldsList-from_range}
+use Rattle.std.proofs.lemmas.Iterator.Search.{all_from_yields_List}
+use Rattle.node_bytes.specs.Nodes.{cell_good, cells_good}
+use Rattle.node_bytes.specs.Rows.{every_of-range}
 use Rattle.shapes.proofs.cells_good.Goals as goal
-
-pub loop-left-init : goal.loop-left-init
-loop-left-init c = walk_starts _ _ _ _
-
-pub returns-then-not-cell_good : goal.returns-then-not-cell_good
-unfolding cells_good
-returns-then-not-cell_good c =
-    walk_fails c.loop-left.invariant c.loop-left-test.true
-    (sym c.cell_good.ensures ∙ c.if-not-cell_good.true)
-
-pub loop-left-preserved : goal.loop-left-preserved
-loop-left-preserved c =
-    walk_passes c.loop-left.invariant c.loop-left-test.true
-    (sym c.cell_good.ensures ∙ c.if-not-cell_good.false)
 
 pub returns : goal.returns
 unfolding cells_good
-returns c = walk_ends c.loop-left.invariant c.loop-left-test.false
+returns c =
+    all_from_yields_List _ _ _ _ c.all.ensures.ran (YieldsList-from_range 0 c.args.n c.args.n refl (omega arith)) (λ x b q h. search rules)
+    ∙ every_of-range (cell_good c.args.s.now) 9 c.args.from c.args.n

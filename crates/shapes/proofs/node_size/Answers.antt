@@ -1,30 +1,43 @@
 -- `shapes::node_size` measures a node as the definition does: its first byte says which kind of node it is.
-use Rattle.std.proofs.Common.{refl, arith, le-leb, eq-eqb, ne_eqb}
-use borrow.Author.Tests.{lt-leb}
-use Rattle.node_bytes.specs.Nodes.{node_size}
-use Rattle.shapes.specs.Sizes.{size-outside, size-right}
+use Rattle.std.proofs.Common.{sym, ap, ◌∙◌}
+use Rattle.node_bytes.specs.Tags.{says_join}
+use Rattle.shapes.specs.Shapes.{size_of}
+use Rattle.shapes.specs.Sizes.{size_table, size_join, size_grouping, size_other, node_past, none_of}
 use Rattle.shapes.proofs.node_size.Goals as goal
 
-pub returns-then-s-at-lt3 : goal.returns-then-s-at-lt3
-unfolding node_size
-returns-then-s-at-lt3 c = simp (eq-eqb _ _ c.if-tag-eq0.true) (size-outside _ _ _ _ (omega arith))
+pub returns-in_err-get : goal.returns-in_err-get
+returns-in_err-get c =
+    c.from_residual.ensures
+    ∙ none_of
+    ∙ ap size_of (sym (node_past c.args.s.now c.args.at c.in_err-get.ensures.lookup.3))
 
-pub returns-then-tag-eq0 : goal.returns-then-tag-eq0
-unfolding node_size
-returns-then-tag-eq0 c = simp (eq-eqb _ _ c.if-tag-eq0.true) (size-right _ _ _ (omega arith) refl)
+pub returns-in-Table : goal.returns-in-Table
+returns-in-Table c =
+    let k = simp (c.in_ok-get.ensures.lookup.3.1 0) at c.from.ensures in
+    c.then_some.ensures ∙ size_table _ _ c.in_ok-get.ensures.lookup.3.0 (sym k ∙ c.in-Table.is)
 
-pub returns-then-tag-le3 : goal.returns-then-tag-le3
-unfolding node_size
-returns-then-tag-le3 c = simp (ne_eqb _ _ c.if-tag-eq0.false, le-leb _ _ c.if-tag-le3.true) c.join_size.ensures
+pub join_size-requires-clause-from_inner : goal.join_size-requires-clause-from_inner
+join_size-requires-clause-from_inner c =
+    let k = simp (c.in_ok-get.ensures.lookup.3.1 0) at c.from.ensures in
+    (says_join _ (simp k at c.in-Inner.is)).0
 
-pub returns-then-tag-eq4 : goal.returns-then-tag-eq4
-unfolding node_size
-returns-then-tag-eq4 c =
-    simp
-    (ne_eqb _ _ c.if-tag-eq0.false, lt-leb _ _ c.if-tag-le3.false, eq-eqb _ _ c.if-tag-eq4.true)
-    c.group_size.ensures
+pub join_size-requires-clause-to_full : goal.join_size-requires-clause-to_full
+join_size-requires-clause-to_full c =
+    let k = simp (c.in_ok-get.ensures.lookup.3.1 0) at c.from.ensures in
+    (says_join _ (simp k at c.in-Inner.is)).1
 
-pub returns : goal.returns
-unfolding node_size
-returns c =
-    simp (ne_eqb _ _ c.if-tag-eq0.false, lt-leb _ _ c.if-tag-le3.false, ne_eqb _ _ c.if-tag-eq4.false)
+pub returns-in-Inner : goal.returns-in-Inner
+returns-in-Inner c =
+    let k = simp (c.in_ok-get.ensures.lookup.3.1 0) at c.from.ensures in
+    let j = says_join _ (simp k at c.in-Inner.is) in
+    c.join_size.ensures ∙ ap size_of (size_join _ _ j.0 j.1)
+
+pub returns-in-Grouping : goal.returns-in-Grouping
+returns-in-Grouping c =
+    let k = simp (c.in_ok-get.ensures.lookup.3.1 0) at c.from.ensures in
+    c.group_size.ensures ∙ ap size_of (size_grouping _ _ (sym k ∙ c.in-Grouping.is))
+
+pub returns-in-Other : goal.returns-in-Other
+returns-in-Other c =
+    let k = simp (c.in_ok-get.ensures.lookup.3.1 0) at c.from.ensures in
+    none_of ∙ ap size_of (size_other _ _ (sym k ∙ c.in-Other.is))
