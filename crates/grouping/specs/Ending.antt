@@ -8,12 +8,12 @@ use Rattle.meaning.specs.Running.{rows_from}
 use Rattle.meaning.proofs.Widths.{rows_long}
 use Rattle.regions.specs.Holding.{Held, HeldRows, held-cells_fit, held-marks_fit, row-held}
 use Rattle.groups.proofs.Keys.{key_equality}
-use Rattle.sorting.specs.Sorting.{Listed, columns, key_at, KeysIn}
+use Rattle.sorting.specs.Sorting.{Listed, key_at, KeysIn}
 use Rattle.sorting.specs.Standing.{key-read}
 use Rattle.groups.proofs.Runs.{RunEnd}
 
-pub record EndRoom (s : List ℕ) (from n : ℕ) (cells : List ℤ) (marks : List ℕ) (base rows w i : ℕ) : Type 0 where
-  pub listed : Listed s from n w
+pub record EndRoom (cols : List ℕ) (cells : List ℤ) (marks : List ℕ) (base rows w i : ℕ) : Type 0 where
+  pub listed : Listed cols w
   pub held : HeldRows cells marks base w (rows_from cells marks w base rows)
   pub before : i < rows
 
@@ -23,7 +23,7 @@ pub record Alike (cols : List ℕ) (u : Table) (i e : ℕ) : Type 0 where
   pub within : e ≤ length u
   pub alike : (j : ℕ) → i ≤ j → j < e → same_key (key cols (get_or u j [])) (key cols (get_or u i [])) ≡ true
 
-module _ {s : List ℕ} {from n : ℕ} {cells : List ℤ} {marks : List ℕ} {base rows w i : ℕ} (r : EndRoom s from n cells marks base rows w i) where
+module _ {cols : List ℕ} {cells : List ℤ} {marks : List ℕ} {base rows w i : ℕ} (r : EndRoom cols cells marks base rows w i) where
   abbrev u : Table
   u = rows_from cells marks w base rows
 
@@ -43,42 +43,41 @@ module _ {s : List ℕ} {from n : ℕ} {cells : List ℤ} {marks : List ℕ} {ba
   row-marks j l = omega (arith, held-marks_fit (row_here j l), row-wide j l)
 
   -- the first row of the run
-  pub alike-one : Alike (columns s from n) u i (i + 1)
+  pub alike-one : Alike cols u i (i + 1)
   alike-one = record {
     after = omega arith;
     within = omega (arith, long, r.before);
-    alike = λ j a b. let q : j ≡ i = omega arith in rw q (key_equality.self (key (columns s from n) (get_or u i [])));
+    alike = λ j a b. let q : j ≡ i = omega arith in rw q (key_equality.self (key cols (get_or u i [])));
   }
 
-  module _ (e : ℕ) (a : Alike (columns s from n) u i e) where
+  module _ (e : ℕ) (a : Alike cols u i e) where
     module _ (l : e < rows) where
-      pub keys_in : KeysIn s from n cells marks (base + e * w) (base + i * w)
+      pub keys_in : KeysIn cols cells marks (base + e * w) (base + i * w)
       keys_in = record {
-        inside = r.listed.inside;
         cells-a = λ k b. omega (arith, r.listed.narrow k b, row-cells e l);
         marks-a = λ k b. omega (arith, r.listed.narrow k b, row-marks e l);
         cells-b = λ k b. omega (arith, r.listed.narrow k b, row-cells i r.before);
         marks-b = λ k b. omega (arith, r.listed.narrow k b, row-marks i r.before);
       }
 
-      keys_read : same_key (key_at cells marks (base + e * w) (columns s from n)) (key_at cells marks (base + i * w) (columns s from n))
-          ≡ same_key (key (columns s from n) (get_or u e [])) (key (columns s from n) (get_or u i []))
+      keys_read : same_key (key_at cells marks (base + e * w) cols) (key_at cells marks (base + i * w) cols)
+          ≡ same_key (key cols (get_or u e [])) (key cols (get_or u i []))
       keys_read =
-          let p = key-read (row_here e l) s from n (λ k b. rw (row-wide e l) (r.listed.narrow k b)) in
-          let q = key-read (row_here i r.before) s from n (λ k b. rw (row-wide i r.before) (r.listed.narrow k b)) in
+          let p = key-read (row_here e l) cols (λ k b. rw (row-wide e l) (r.listed.narrow k b)) in
+          let q = key-read (row_here i r.before) cols (λ k b. rw (row-wide i r.before) (r.listed.narrow k b)) in
           cc
 
       -- one row more, or the end
-      module _ {b : Bool} (f : b ≡ same_key (key_at cells marks (base + e * w) (columns s from n)) (key_at cells marks (base + i * w) (columns s from n))) where
-        pub alike-more : b ≡ true → Alike (columns s from n) u i (e + 1)
+      module _ {b : Bool} (f : b ≡ same_key (key_at cells marks (base + e * w) cols) (key_at cells marks (base + i * w) cols)) where
+        pub alike-more : b ≡ true → Alike cols u i (e + 1)
         alike-more g = record { after = omega (arith, a.after); within = omega (arith, long); alike = λ j x y. each j x y (dec_lt j e) }
           where
-            each : (j : ℕ) → i ≤ j → j < e + 1 → Dec (j < e) → same_key (key (columns s from n) (get_or u j [])) (key (columns s from n) (get_or u i [])) ≡ true
+            each : (j : ℕ) → i ≤ j → j < e + 1 → Dec (j < e) → same_key (key cols (get_or u j [])) (key cols (get_or u i [])) ≡ true
             each j x y (yes m) = a.alike j x m
             each j x y (no m) = let q : j ≡ e = omega arith in rw q (sym keys_read ∙ sym f ∙ g)
 
-        pub ends-here : b ≡ false → RunEnd (columns s from n) u i e
+        pub ends-here : b ≡ false → RunEnd cols u i e
         ends-here g = record { after = a.after; within = a.within; alike = a.alike; stops = λ m. sym keys_read ∙ sym f ∙ g }
 
-    pub ends_last : rows ≤ e → RunEnd (columns s from n) u i e
+    pub ends_last : rows ≤ e → RunEnd cols u i e
     ends_last m = record { after = a.after; within = a.within; alike = a.alike; stops = λ b. absurd (omega (arith, long)) }

@@ -1,21 +1,22 @@
 -- A running aggregate that is fed with the rows of an area, in order.
-use Rattle.std.specs.Prelude.{◌≡◌, ℕ, zero, suc, ◌+◌, ◌-◌, ◌*◌, ◌<◌, ◌≤◌, ◌^◌, length, get_or, ℤ, pos}
+use Rattle.std.specs.Prelude.{◌≡◌, ℕ, zero, suc, ◌+◌, ◌-◌, ◌*◌, ◌<◌, ◌≤◌, ◌^◌, length, get_or, ℤ, Option}
 use Rattle.std.proofs.Math.Path.{refl, sym, ap}
 use Rattle.std.proofs.Common.{subst, ◌∙◌, arith, List, [], ◌∷◌, ◌++◌, append_assoc, append-nil}
 use Rattle.meaning.specs.Plans.{Row, Table, Name, Aggregate, name_of, columns_read}
 use Rattle.meaning.specs.Joining.{cell}
 use Rattle.meaning.specs.Aggregating.{values_of}
-use Rattle.meaning.specs.Arrangement.{name_number}
-use Rattle.meaning.specs.Running.{cells_from, rows_from, cell_number, cell_mark}
+use Rattle.meaning.specs.Running.{cells_from, rows_from}
 use Rattle.meaning.proofs.Widths.{cells-long, rows_long}
 use Rattle.arrangement.proofs.Items.{number-name}
 use Rattle.rules.specs.Lines.{name_at}
-use Rattle.regions.specs.Holding.{Held, HeldRows, held_number, held-mark, held-cells_fit, held-marks_fit, row-held}
-use Rattle.regions.specs.Reading.{row_at}
+use Rattle.rules.specs.Named.{named}
+use Rattle.regions.specs.Holding.{Held, HeldRows, held-cells_fit, held-marks_fit, row-held}
+use Rattle.regions.specs.Reading.{cell_of, cells_at, row_at}
 use Rattle.running.specs.declared.Running.{Running}
 use Rattle.running.specs.States.{add_to, start_of, Room}
+use Rattle.running.specs.Names.{called, named_called}
 use Rattle.running.specs.Values.{Rises, rises-front}
-use Rattle.running.specs.Rows.{taken_by, taken-by}
+use Rattle.running.specs.Rows.{taken_by, taken-by, cell_value}
 use Rattle.running.specs.Sizes.{most_of, most-append}
 use Rattle.running.specs.Laws.{Took, took_none, took_cells, took_room-cells}
 
@@ -60,6 +61,15 @@ rows-one : (cs : List ℤ) (ms : List ℕ) (w at : ℕ) → rows_from cs ms w at
 unfolding rows_from
 rows-one cs ms w at = refl
 
+-- what the code calls a known name
+pub known-called : (name : ℕ) → name < 9 → named name ≡ called (name_at name)
+known-called name known = ap named (sym (number-name name known)) ∙ named_called (name_at name)
+
+-- a place inside an area
+pub record CellIn (cells : List ℤ) (marks : List ℕ) (place : ℕ) : Type 0 where
+  pub in_cells : place < length cells
+  pub in_marks : place < length marks
+
 -- the aggregate of a number, with columns v and c, may be fed with rows w wide: its sums stay small, a distinct one's values ascend
 pub record FeedRoom (name v c : ℕ) (cells : List ℤ) (marks : List ℕ) (base rows w : ℕ) : Type 0 where
   pub known : name < 9
@@ -75,12 +85,9 @@ Fed name v c cells marks base k w st = Took (name_at name) (values_by (name_at n
 
 module _ {name v c : ℕ} {cells : List ℤ} {marks : List ℕ} {base rows w : ℕ} (room : FeedRoom name v c cells marks base rows w) where
   -- nothing fed yet
-  pub fed_none : {st : Running} → st ≡ start_of name → Fed name v c cells marks base 0 w st
+  pub fed_none : {st : Running} → st ≡ start_of (named name) → Fed name v c cells marks base 0 w st
   unfolding rows_from values_by
-  fed_none e = rw (e, sym (number-name name room.known)) (rw name_at_own (took_none (name_at name)))
-    where
-      name_at_own : name_at (name_number (name_at name)) ≡ name_at name
-      name_at_own = ap name_at (number-name name room.known)
+  fed_none e = rw (e, known-called name room.known) (took_none (name_at name))
 
   module _ (k : ℕ) (l : k < rows) where
     abbrev row : Row
@@ -123,26 +130,24 @@ module _ {name v c : ℕ} {cells : List ℤ} {marks : List ℕ} {base rows w : �
     pub row-marks : base + k * w + w ≤ length marks
     row-marks = omega (arith, held-marks_fit row_here, row-long)
 
-    -- what is read of the row
-    pub read_number : (i : ℕ) → i < w → get_or cells (base + k * w + i) (pos 0) ≡ cell_number (cell row i)
-    unfolding cell
-    read_number i b = held_number row_here i (omega (arith, row-long))
+    -- a cell of it lies inside, and what is read there
+    pub cell-in : (i : ℕ) → i < w → CellIn cells marks (base + k * w + i)
+    cell-in i b = record { in_cells = omega (arith, row-cells); in_marks = omega (arith, row-marks) }
 
-    pub read-mark : (i : ℕ) → i < w → get_or marks (base + k * w + i) 0 ≡ cell_mark (cell row i)
-    unfolding cell
-    read-mark i b = held-mark row_here i (omega (arith, row-long))
+    read : (i : ℕ) → i < w → cell_of cells marks (base + k * w + i) ≡ cell row i
+    unfolding cell_of cell
+    read i b = sym (cells_at cells marks (base + k * w) w i b)
 
-    -- one row more; x and y are the numbers as they come back from their bits
-    module _ {st : Running} (t : Fed name v c cells marks base k w st) {x y : ℤ}
-        (ex : x ≡ get_or cells (base + k * w + v) (pos 0)) (ey : y ≡ get_or cells (base + k * w + c) (pos 0)) where
-      pub fed_room : Room st x (get_or marks (base + k * w + v) 0) y (get_or marks (base + k * w + c) 0)
+    -- one row more
+    module _ {st : Running} (t : Fed name v c cells marks base k w st) {x y : Option ℤ}
+        (ex : x ≡ cell_value (cell_of cells marks (base + k * w + v))) (ey : y ≡ cell_value (cell_of cells marks (base + k * w + c))) where
+      pub fed_room : Room st x y
       fed_room =
-          rw (ex ∙ read_number v room.v_in, ey ∙ read_number c room.c_in, read-mark v room.v_in, read-mark c room.c_in)
+          rw (ex, ey, read v room.v_in, read c room.c_in)
           (took_room-cells t (cell row v) (cell row c)
           (most-front (name_at name) _ _ (rw values_split at room.small)))
 
-      pub fed_more : {st' : Running} → st' ≡ add_to st x (get_or marks (base + k * w + v) 0) y (get_or marks (base + k * w + c) 0)
-          → Fed name v c cells marks base (k + 1) w st'
+      pub fed_more : {st' : Running} → st' ≡ add_to st x y → Fed name v c cells marks base (k + 1) w st'
       fed_more e =
-          rw (e, ex ∙ read_number v room.v_in, ey ∙ read_number c room.c_in, read-mark v room.v_in, read-mark c room.c_in, more, next)
+          rw (e, ex, ey, read v room.v_in, read c room.c_in, more, next)
           (took_cells t (cell row v) (cell row c) (rises-front (name_at name) _ _ (rw values_split at room.rises)))

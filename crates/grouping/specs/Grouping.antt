@@ -20,6 +20,7 @@ use Rattle.regions.specs.Reading.{row_at}
 use Rattle.running.specs.Rows.{values_append}
 use Rattle.running.specs.Sizes.{most_of, most-append}
 use Rattle.sorting.specs.Sorting.{Listed, SortRoom, SortDone}
+use Rattle.sorting.specs.Columns.{columns-long, columns_listed}
 use Rattle.regions.specs.Rows.{untouched_then, untouched_wider, rows-front, rows_back, rows_apart, rows_to, rows_stay, rows_same}
 use Rattle.groups.proofs.Runs.{RunEnd, runs_of, rest, rest-none, rest-step, written-few}
 use Rattle.groups.proofs.Grouped.{runs_of-group_rows}
@@ -91,6 +92,10 @@ there_at w [] o e i = omega arith
 there_at w (x ∷ cs) o e zero = ltb-true x w (and_left (ltb x w) (all (λ (i : ℕ). ltb i w) cs) e)
 there_at w (x ∷ cs) o e (suc i) = there_at w cs o (and_right (ltb x w) (all (λ (i : ℕ). ltb i w) cs) e) i
 
+-- a grouping's width, by its columns as the code has them
+pub width_here : (s : List ℕ) (at : ℕ) {cols : List ℕ} → cols ≡ columns_from s at → length cols + byte s (at + 2) ≡ group_width s at
+width_here s at o = ap (λ (k : ℕ). k + byte s (at + 2)) (ap length o ∙ columns-long s (at + 3) (byte s (at + 1)))
+
 -- ---- rows in the middle of others
 
 module _ (cells : List ℤ) (marks : List ℕ) (w base n i e : ℕ) (a : i ≤ e) (b : e ≤ n) where
@@ -145,7 +150,7 @@ group-row-long : (s : List ℕ) (at : ℕ) (x : Row) (t : Table) → length (gro
 unfolding group_row
 group-row-long s at x t =
     length-append (key (columns_from s at) x) (map (λ (a : Aggregate). aggregate a t) (aggregates_from s at))
-    ∙ (let p = key-long s (at + 3) (byte s (at + 1)) x in
+    ∙ (let p = key-long (columns_from s at) x ∙ columns-long s (at + 3) (byte s (at + 1)) in
     let q = length-map (aggregates_from s at) (λ (a : Aggregate). aggregate a t) in
     let k = length_list (aggregate_at s) 3 (at + 3 + byte s (at + 1)) (byte s (at + 2)) in
     omega (arith, p, q, k))
@@ -171,8 +176,11 @@ module _ {s : List ℕ} {at : ℕ} {cells : List ℤ} {marks : List ℕ} {input 
       let q : at + 3 + 1 * i ≡ at + 3 + i = omega arith in
       subst (λ (k : ℕ). k < w) (get_d_list (byte s) 1 (at + 3) (byte s (at + 1)) i 0 l ∙ ap (byte s) q) (there_at w cols r.some-columns r.key-columns i)
 
-  pub listed : Listed s (at + 3) (byte s (at + 1)) w
-  listed = record { inside = omega (arith, node-inside); narrow = narrow }
+  pub listed : Listed cols w
+  listed = columns_listed s (at + 3) (byte s (at + 1)) w narrow
+
+  pub columns-inside : at + 3 + byte s (at + 1) ≤ length s
+  columns-inside = omega (arith, node-inside)
 
   rows-room : n * w ≤ 16 * n
   rows-room = let m : n * w ≤ n * 16 = mul-le-mul_left n r.most-columns in omega arith
@@ -215,7 +223,7 @@ module _ {s : List ℕ} {at : ℕ} {cells : List ℤ} {marks : List ℕ} {input 
 
   -- ---- the sort
 
-  pub sort-room : SortRoom s (at + 3) (byte s (at + 1)) cells marks input n w out
+  pub sort-room : SortRoom (columns_from s at) cells marks input n w out
   sort-room = record {
     listed = listed;
     held = r.held;
@@ -229,7 +237,7 @@ module _ {s : List ℕ} {at : ℕ} {cells : List ℤ} {marks : List ℕ} {input 
     few = r.few;
   }
 
-  module _ {cells₁ : List ℤ} {marks₁ : List ℕ} (o : SortDone s (at + 3) (byte s (at + 1)) cells marks cells₁ marks₁ input n w out) where
+  module _ {cells₁ : List ℤ} {marks₁ : List ℕ} (o : SortDone (columns_from s at) cells marks cells₁ marks₁ input n w out) where
     pub sorted-room : GroupRoom s at cells₁ marks₁ input n w out
     sorted-room = record {
       tag = r.tag;
@@ -305,7 +313,7 @@ module _ {s : List ℕ} {at : ℕ} {cells : List ℤ} {marks : List ℕ} {input 
         record { counted = sym g.long ∙ ap length e; held = rw e at g.written; kept = g.kept }
 
     module _ (l : i < n) where
-      pub end_room : EndRoom s (at + 3) (byte s (at + 1)) cells₁ marks₁ input n w i
+      pub end_room : EndRoom (columns_from s at) cells₁ marks₁ input n w i
       end_room = record { listed = listed; held = rw same (rows_stay n r.held g.kept below); before = l }
 
       module _ {e : ℕ} (d : RunEnd cols (rows_from cells₁ marks₁ w input n) i e) where

@@ -1,44 +1,45 @@
 -- One aggregate over the rows of a run: a distinct one over more than one row is fed with a sorted copy of its column.
-use Rattle.std.specs.Prelude.{◌≡◌, Bool, not, cond, ◌&&◌, List, [], ◌∷◌, ◌++◌, ℕ, ◌+◌, ◌*◌, ◌<◌, ◌≤◌, ◌^◌, length, get_or, ℤ}
+use Rattle.std.specs.Prelude.{◌≡◌, Bool, not, cond, ◌&&◌, List, [], ◌∷◌, ◌++◌, ℕ, zero, suc, ◌+◌, ◌*◌, ◌<◌, ◌≤◌, ◌^◌, length, get_or, ℤ, Option}
 use Rattle.std.proofs.Math.Path.{refl, sym, ap}
 use Rattle.std.proofs.Common.{◌∙◌, inl, inr, mul-le-mul_right, arith, lit<, ltb-true, ltb-false}
 use Rattle.std.proofs.Math.Bool.{true, false}
 use Rattle.std.proofs.Math.Dec.{ltb}
 use borrow.Author.Tests.{not-true}
 use Rattle.meaning.specs.Cells.{Cell}
-use Rattle.meaning.specs.Plans.{Table, Name, Aggregate, rows, count, sum, least, greatest, distinct_sum, distinct_count, weighted_sum, weighted_count, name_of, columns_read}
+use Rattle.meaning.specs.Plans.{Table, Name, Aggregate, name_of, columns_read}
 use Rattle.meaning.specs.Joining.{cell}
 use Rattle.meaning.specs.Aggregating.{values_of, aggregate}
 use Rattle.meaning.specs.Arrangement.{name_number, two_places, aggregate_bytes}
-use Rattle.meaning.specs.Running.{rows_from, cell_number, cell_mark}
+use Rattle.meaning.specs.Running.{rows_from}
 use Rattle.meaning.proofs.Widths.{rows_long}
 use Rattle.lists.specs.Tests.{and_left, and_right}
 use Rattle.numbers.specs.Integers.{false_true}
 use Rattle.rules.specs.Lines.{name_at, name_at-number}
+use Rattle.rules.specs.Named.{named}
 use Rattle.node_bytes.specs.Holding.{holds_head}
 use Rattle.node_bytes.specs.Widths.{aggregate-wide}
-use Rattle.node_bytes.specs.Rows.{list_at}
 use Rattle.node_bytes.specs.Nodes.{byte, aggregate_good}
-use Rattle.arrangement.proofs.Items.{aggregate_at, aggregate-holds, number-name}
+use Rattle.arrangement.proofs.Items.{aggregate_at, aggregate-holds}
 use Rattle.regions.specs.Holding.{HeldRows, Untouched}
 use Rattle.regions.specs.Reading.{rows-read}
 use Rattle.running.specs.declared.Running.{Running}
 use Rattle.running.specs.States.{distinct_of, finish_of}
 use Rattle.running.specs.Ascent.{upwards_from, upwards}
-use Rattle.running.specs.Values.{is_distinct, Rises}
-use Rattle.running.specs.Rows.{Gives, nothing, one, gives}
+use Rattle.running.specs.Names.{called, named_called, is_distinct}
+use Rattle.running.specs.Values.{Rises}
+use Rattle.running.specs.Rows.{cell_value, Gives, nothing, one, gives}
 use Rattle.running.specs.Sizes.{most_of}
 use Rattle.running.specs.Laws.{Took, took_finish}
 use Rattle.sorting.specs.Sorting.{SortOf, SortRoom, SortDone}
 use Rattle.regions.specs.Rows.{untouched_then, untouched_wider, untouched-none}
-use Rattle.grouping.specs.Picking.{PickRoom, PickDone, column_place, column_of, column-long, column-held, picked_untouched}
-use Rattle.grouping.specs.Feeding.{values_by, values_by_lem, FeedRoom, Fed}
+use Rattle.grouping.specs.Picking.{PickRoom, PickDone, At, column_place, column_of, column-long, column-held, picked_untouched}
+use Rattle.grouping.specs.Feeding.{values_by, values_by_lem, FeedRoom, Fed, known-called}
 use Rattle.grouping.specs.Sorted.{ByColumn, over_column, by-column}
 
 -- ---- when a copy is sorted, and how much room that takes
 
 unfoldable pub needs_order : ℕ → ℕ → Bool
-needs_order name n = not (ltb n 2) && distinct_of name
+needs_order name n = not (ltb n 2) && distinct_of (named name)
 
 -- the cells of the copy and of the sort
 unfoldable pub scratch_for : ℕ → ℕ
@@ -82,9 +83,8 @@ pub record StateRoom (s : List ℕ) (at : ℕ) (cells : List ℤ) (marks : List 
 -- ---- what is done
 
 -- the state answers this cell
-pub record AnswersCell (st : Running) (x : Cell) : Type 0 where
-  pub number : (finish_of st).cell ≡ cell_number x
-  pub mark : (finish_of st).mark ≡ cell_mark x
+abbrev pub AnswersCell : Running → Cell → Type 0
+AnswersCell st x = finish_of st ≡ cell_value x
 
 pub record StateDone (s : List ℕ) (at : ℕ) (cells : List ℤ) (marks : List ℕ) (cells' : List ℤ) (marks' : List ℕ) (base n w scratch : ℕ) (st : Running) : Type 0 where
   pub kept : Untouched cells marks cells' marks' scratch (scratch + scratch_for n)
@@ -92,7 +92,7 @@ pub record StateDone (s : List ℕ) (at : ℕ) (cells : List ℤ) (marks : List 
 
 pub took_answers : (a : Aggregate) (t : Table) {st : Running} → Took (name_of a) (values_of a t) st → AnswersCell st (aggregate a t)
 unfolding aggregate
-took_answers a t k = record { number = (took_finish k).0; mark = (took_finish k).1 }
+took_answers a t k = took_finish k
 
 -- ---- the three bytes of an aggregate
 
@@ -133,33 +133,28 @@ module _ (s : List ℕ) (at : ℕ) (inside : at + 3 ≤ length s) (good : aggreg
   pub values_here : (t : Table) → values_by (name_at (byte s at)) (byte s (at + 1)) (byte s (at + 2)) t ≡ values_of (aggregate_at s at) t
   values_here t = rw (name-here, first-here, second-here) (values_by_lem (aggregate_at s at) t)
 
-  distinct-here : distinct_of (byte s at) ≡ is_distinct (name_of (aggregate_at s at))
-  distinct-here = ap distinct_of name-byte
+  pub called-here : named (byte s at) ≡ called (name_of (aggregate_at s at))
+  called-here = ap named name-byte ∙ named_called (name_of (aggregate_at s at))
 
--- a distinct aggregate reads no second column
-no_second : (a : Aggregate) → is_distinct (name_of a) ≡ true → get_or (columns_read a) 1 0 ≡ 0
-unfolding name_of name_number distinct_of columns_read
-no_second rows d = false_true d
-no_second (count v) d = false_true d
-no_second (sum v) d = false_true d
-no_second (least v) d = false_true d
-no_second (greatest v) d = false_true d
-no_second (distinct_sum v) d = refl
-no_second (distinct_count v) d = refl
-no_second (weighted_sum v c) d = false_true d
-no_second (weighted_count v c) d = false_true d
+  distinct-here : distinct_of (named (byte s at)) ≡ is_distinct (name_of (aggregate_at s at))
+  distinct-here = ap distinct_of called-here
 
 -- the values of one row ascend
-given_up : {n : Name} {v : ℤ} {v_mark : ℕ} {c : ℤ} {c_mark : ℕ} {ys : List ℤ} → Gives n v v_mark c c_mark ys → upwards (ys ++ []) ≡ true
+given_up : {n : Name} {v c : Option ℤ} {ys : List ℤ} → Gives n v c ys → upwards (ys ++ []) ≡ true
 unfolding upwards upwards_from
 given_up (nothing s) = refl
-given_up (one z s a same) = refl
+given_up (one z a same) = refl
 
 short_up : (n : Name) (v c : ℕ) (t : Table) → length t < 2 → upwards (values_by n v c t) ≡ true
 unfolding values_by upwards
 short_up n v c [] l = refl
 short_up n v c (r ∷ []) l = given_up (gives n (cell r v) (cell r c))
 short_up n v c (r ∷ q ∷ t) l = absurd (omega arith)
+
+-- the one column of a copy
+only : (i : ℕ) → i < 1 → get_or (0 ∷ []) i 0 < 1
+only zero l = lit< tt
+only (suc i) l = absurd (omega arith)
 
 module _ {s : List ℕ} {at : ℕ} {cells : List ℤ} {marks : List ℕ} {base n w scratch : ℕ} (room : StateRoom s at cells marks base n w scratch) where
   abbrev t : Table
@@ -174,8 +169,8 @@ module _ {s : List ℕ} {at : ℕ} {cells : List ℤ} {marks : List ℕ} {base n
   known : byte s at < 9
   known = aggregate-known s at room.fits.inside room.fits.good
 
-  named : name_at (byte s at) ≡ name_of a
-  named = name-here s at room.fits.inside room.fits.good
+  same-name : name_at (byte s at) ≡ name_of a
+  same-name = name-here s at room.fits.inside room.fits.good
 
   -- ---- fed as the rows are
 
@@ -183,9 +178,9 @@ module _ {s : List ℕ} {at : ℕ} {cells : List ℤ} {marks : List ℕ} {base n
   unfolding needs_order
   plain-rises e d = pick (ltb n 2) refl e
     where
-      pick : (b : Bool) → ltb n 2 ≡ b → (not b && distinct_of (byte s at)) ≡ false → upwards (values_by (name_at (byte s at)) (byte s (at + 1)) (byte s (at + 2)) t) ≡ true
+      pick : (b : Bool) → ltb n 2 ≡ b → (not b && distinct_of (named (byte s at))) ≡ false → upwards (values_by (name_at (byte s at)) (byte s (at + 1)) (byte s (at + 2)) t) ≡ true
       pick true l f = short_up (name_at (byte s at)) (byte s (at + 1)) (byte s (at + 2)) t (omega (arith, ltb-true n 2 l, long))
-      pick false l f = false_true (sym f ∙ (rw (number-name (byte s at) known) at d))
+      pick false l f = false_true (sym f ∙ ap distinct_of (known-called (byte s at) known) ∙ d)
 
   pub plain-room : {b : Bool} → b ≡ needs_order (byte s at) n → b ≡ false → FeedRoom (byte s at) (byte s (at + 1)) (byte s (at + 2)) cells marks base n w
   plain-room e f = record {
@@ -193,14 +188,14 @@ module _ {s : List ℕ} {at : ℕ} {cells : List ℤ} {marks : List ℕ} {base n
     v_in = room.fits.v_in;
     c_in = room.fits.c_in;
     held = room.run.held;
-    small = rw (values_here s at room.fits.inside room.fits.good t, named) room.fits.small;
+    small = rw (values_here s at room.fits.inside room.fits.good t, same-name) room.fits.small;
     rises = plain-rises (sym e ∙ f);
   }
 
   pub plain_done : {st : Running} → Fed (byte s at) (byte s (at + 1)) (byte s (at + 2)) cells marks base n w st → StateDone s at cells marks cells marks base n w scratch st
   plain_done k = record {
     kept = untouched-none;
-    answers = took_answers a t (rw (values_here s at room.fits.inside room.fits.good t, named) at k);
+    answers = took_answers a t (rw (values_here s at room.fits.inside room.fits.good t, same-name) at k);
   }
 
   -- ---- fed with the sorted column
@@ -208,14 +203,11 @@ module _ {s : List ℕ} {at : ℕ} {cells : List ℤ} {marks : List ℕ} {base n
   module _ {b : Bool} (e : b ≡ needs_order (byte s at) n) (f : b ≡ true) where
     more : ltb n 2 ≡ false
     unfolding needs_order
-    more = not-true (ltb n 2) (and_left (not (ltb n 2)) (distinct_of (byte s at)) (sym e ∙ f))
+    more = not-true (ltb n 2) (and_left (not (ltb n 2)) (distinct_of (named (byte s at))) (sym e ∙ f))
 
     distinct : is_distinct (name_of a) ≡ true
     unfolding needs_order
-    distinct = sym (distinct-here s at room.fits.inside room.fits.good) ∙ and_right (not (ltb n 2)) (distinct_of (byte s at)) (sym e ∙ f)
-
-    no_c : byte s (at + 2) ≡ 0
-    no_c = second-here s at room.fits.inside room.fits.good ∙ no_second a distinct
+    distinct = sym (distinct-here s at room.fits.inside room.fits.good) ∙ and_right (not (ltb n 2)) (distinct_of (named (byte s at))) (sym e ∙ f)
 
     pub two_cells : scratch + 2 * n ≤ length cells
     two_cells = omega (arith, room.run.cells-room, scratch_two n more)
@@ -223,17 +215,17 @@ module _ {s : List ℕ} {at : ℕ} {cells : List ℤ} {marks : List ℕ} {base n
     pub two_marks : scratch + 2 * n ≤ length marks
     two_marks = omega (arith, room.run.marks-room, scratch_two n more)
 
-    pub column-room : PickRoom cells marks (column_place (base + byte s (at + 1)) w) scratch n
+    pub column-room : PickRoom cells marks (At (column_place (base + byte s (at + 1)) w)) scratch n
     column-room = record {
-      below = λ i l. let m : (i + 1) * w ≤ n * w = mul-le-mul_right w (omega arith) in omega (arith, room.fits.v_in, room.run.below);
+      below = λ i k l g. let m : (i + 1) * w ≤ n * w = mul-le-mul_right w (omega arith) in omega (arith, g, room.fits.v_in, room.run.below);
       cells_to = omega (arith, two_cells);
       marks_to = omega (arith, two_marks);
     }
 
     pub column-starts : base + byte s (at + 1) < scratch
-    column-starts = omega (arith, column-room.below 0 (omega (arith, ltb-false n 2 more)))
+    column-starts = omega (arith, column-room.below 0 (base + byte s (at + 1)) (omega (arith, ltb-false n 2 more)) (omega arith))
 
-    module _ {cells₁ : List ℤ} {marks₁ : List ℕ} (p : PickDone cells marks cells₁ marks₁ (column_place (base + byte s (at + 1)) w) scratch n) where
+    module _ {cells₁ : List ℤ} {marks₁ : List ℕ} (p : PickDone cells marks cells₁ marks₁ (At (column_place (base + byte s (at + 1)) w)) scratch n) where
       copied : HeldRows cells₁ marks₁ scratch 1 (column_of (byte s (at + 1)) t)
       copied =
           column-held (byte s (at + 1)) t (rw long p) room.run.held room.fits.v_in
@@ -242,12 +234,9 @@ module _ {s : List ℕ} {at : ℕ} {cells : List ℤ} {marks : List ℕ} {base n
       column-read : rows_from cells₁ marks₁ 1 scratch n ≡ column_of (byte s (at + 1)) t
       column-read = ap (rows_from cells₁ marks₁ 1 scratch) (sym (column-long (byte s (at + 1)) t ∙ long)) ∙ rows-read scratch (column_of (byte s (at + 1)) t) copied
 
-      pub order-room : SortRoom s (at + 2) 1 cells₁ marks₁ scratch n 1 (scratch + n)
+      pub order-room : SortRoom (0 ∷ []) cells₁ marks₁ scratch n 1 (scratch + n)
       order-room = record {
-        listed = record {
-          inside = omega (arith, room.fits.inside);
-          narrow = λ i l. let q : at + 2 + i ≡ at + 2 = omega arith in rw (q, no_c) (lit< tt);
-        };
+        listed = record { narrow = only };
         held = rw column-read copied;
         room = record {
           cells_from = omega (arith, two_cells, p.cells_picked.kept.long);
@@ -259,23 +248,19 @@ module _ {s : List ℕ} {at : ℕ} {cells : List ℤ} {marks : List ℕ} {base n
         few = room.run.few;
       }
 
-      module _ {cells₂ : List ℤ} {marks₂ : List ℕ} (o : SortDone s (at + 2) 1 cells₁ marks₁ cells₂ marks₂ scratch n 1 (scratch + n)) where
+      module _ {cells₂ : List ℤ} {marks₂ : List ℕ} (o : SortDone (0 ∷ []) cells₁ marks₁ cells₂ marks₂ scratch n 1 (scratch + n)) where
         abbrev u : Table
         u = rows_from cells₂ marks₂ 1 scratch n
 
-        listed_zero : list_at (byte s) 1 (at + 2) 1 ≡ 0 ∷ []
-        unfolding list_at
-        listed_zero = ap (λ (k : ℕ). k ∷ []) no_c
-
         sorted : SortOf (0 ∷ []) (column_of (get_or (columns_read a) 0 0) t) u
-        sorted = rw (listed_zero, column-read, first-here s at room.fits.inside room.fits.good) at o.sort
+        sorted = rw (column-read, first-here s at room.fits.inside room.fits.good) at o.sort
 
         made : ByColumn a (over_column a) t u
         made = by-column a distinct sorted
 
         values_same : values_by (name_at (byte s at)) 0 0 u ≡ values_of (over_column a) u
         values_same =
-            rw (named ∙ sym made.name) (rw (made.first, made.second) at (values_by_lem (over_column a) u))
+            rw (same-name ∙ sym made.name) (rw (made.first, made.second) at (values_by_lem (over_column a) u))
 
         pub ordered_room : FeedRoom (byte s at) 0 0 cells₂ marks₂ scratch n 1
         ordered_room = record {
@@ -283,7 +268,7 @@ module _ {s : List ℕ} {at : ℕ} {cells : List ℤ} {marks : List ℕ} {base n
           v_in = lit< tt;
           c_in = lit< tt;
           held = o.held;
-          small = rw (values_same, named) (omega (arith, rw made.name at made.most, room.fits.small));
+          small = rw (values_same, same-name) (omega (arith, rw made.name at made.most, room.fits.small));
           rises = λ d. rw values_same made.rises;
         }
 
@@ -304,5 +289,5 @@ module _ {s : List ℕ} {at : ℕ} {cells : List ℤ} {marks : List ℕ} {base n
         pub ordered_done : {st : Running} → Fed (byte s at) 0 0 cells₂ marks₂ scratch n 1 st → StateDone s at cells marks cells₂ marks₂ base n w scratch st
         ordered_done k = record {
           kept = rw (scratch_two n more) (untouched_then (untouched_wider (picked_untouched p) (omega arith) (omega arith)) sort-kept);
-          answers = rw (sym made.same) (took_answers (over_column a) u (rw (values_same, named ∙ sym made.name) at k));
+          answers = rw (sym made.same) (took_answers (over_column a) u (rw (values_same, same-name ∙ sym made.name) at k));
         }

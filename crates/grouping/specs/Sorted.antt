@@ -8,13 +8,12 @@ use Rattle.std.specs.Int.Signed.{lt_z}
 use Rattle.meaning.specs.Plans.{Row, Table, Name, Aggregate, rows, count, sum, least, greatest, distinct_sum, distinct_count, weighted_sum, weighted_count, name_of, columns_read}
 use Rattle.meaning.specs.Joining.{cell, keep}
 use Rattle.meaning.specs.Aggregating.{value, taken, values_of, answer, aggregate}
-use Rattle.meaning.specs.Arrangement.{name_number}
 use Rattle.meaning.specs.Grouping.{key, same_key, group_of}
 use Rattle.numbers.specs.Integers.{false_true}
 use Rattle.ranges.proofs.Sums.{sum_of}
 use Rattle.running.specs.States.{distinct_of}
 use Rattle.running.specs.Ascent.{upwards_from, upwards}
-use Rattle.running.specs.Values.{is_distinct}
+use Rattle.running.specs.Names.{called, is_distinct}
 use Rattle.running.specs.Sizes.{most_of, most-append}
 use Rattle.sorting.specs.Order.{lower}
 use Rattle.groups.proofs.Keys.{key_equality}
@@ -170,7 +169,7 @@ over_column (weighted_count v c) = weighted_count 0 0
 
 pub by-column : (a : Aggregate) → is_distinct (name_of a) ≡ true → {t u : Table} → SortOf (0 ∷ []) (column_of (get_or (columns_read a) 0 0) t) u
     → ByColumn a (over_column a) t u
-unfolding name_of name_number distinct_of columns_read aggregate over_column
+unfolding name_of called distinct_of columns_read aggregate over_column
 by-column rows d h = false_true d
 by-column (count v) d h = false_true d
 by-column (sum v) d h = false_true d

@@ -1,9 +1,10 @@
 -- A group's row written into an area: the key, then each aggregate behind the ones before.
-use Rattle.std.specs.Prelude.{◌≡◌, List, [], ◌∷◌, ◌++◌, map, ℕ, zero, suc, ◌+◌, ◌*◌, ◌<◌, ◌≤◌, length, get_or, set, ℤ, pos}
+use Rattle.std.specs.Prelude.{◌≡◌, Bool, true, false, not, List, [], ◌∷◌, ◌++◌, map, ℕ, zero, suc, ◌+◌, ◌*◌, ◌<◌, ◌≤◌, length, get_or, set, ℤ, pos, Option, Some, None}
+use Rattle.std.specs.Option.{is_some, unwrap_or}
 use Rattle.std.proofs.Math.Path.{refl}
 use Rattle.std.proofs.Common.{sym, ap, ◌∙◌, mul-le-mul_right, arith, get_or-set_same}
 use Rattle.std.proofs.lemmas.List.{length-map}
-use Rattle.meaning.specs.Cells.{Cell}
+use Rattle.meaning.specs.Cells.{Cell, null, num}
 use Rattle.meaning.specs.Plans.{Row, Table, Aggregate}
 use Rattle.meaning.specs.Aggregating.{aggregate}
 use Rattle.meaning.specs.Grouping.{key, group_row}
@@ -15,11 +16,12 @@ use Rattle.arrangement.proofs.Items.{aggregate_at}
 use Rattle.arrangement.proofs.Roots.{columns_from, aggregates_from}
 use Rattle.regions.specs.Keeping.{kept_then, kept_wider, kept_set}
 use Rattle.regions.specs.Holding.{Held, Untouched, held_both, held_to, held_below, row-held}
+use Rattle.sorting.specs.Columns.{columns-long, columns_at}
 use Rattle.running.specs.declared.Running.{Running}
-use Rattle.running.specs.declared.Finished.{Finished}
 use Rattle.running.specs.States.{finish_of}
+use Rattle.running.specs.Rows.{cell_value}
 use Rattle.regions.specs.Rows.{untouched_then, untouched_wider, rows_stay, rows_same}
-use Rattle.grouping.specs.Picking.{PickDone, KeyRoom, key_place, key-held, key-long, picked_untouched}
+use Rattle.grouping.specs.Picking.{PickRoom, PickDone, At, key_place, key-held, key-long, picked_untouched}
 use Rattle.grouping.specs.Single.{scratch_for, AggregateFits, RunRoom, StateRoom, StateDone}
 
 -- ---- rows below what is written
@@ -36,6 +38,27 @@ run-stays {cells} {cells'} {marks} {marks'} {base} {n} {w} r u b = record {
 
 -- ---- one aggregate
 
+-- the mark of what an aggregate answers
+abbrev pub null_mark : Option ℤ → ℕ
+null_mark None = 1
+null_mark (Some z) = 0
+
+pub mark-null : (o : Option ℤ) (b : Bool) {m : ℕ} → (b ≡ true → m ≡ 1) → (b ≡ false → m ≡ 0) → is_some o ≡ not b → m ≡ null_mark o
+mark-null None true f g e = f refl
+mark-null None false f g e = cc
+mark-null (Some z) true f g e = cc
+mark-null (Some z) false f g e = g refl
+
+value_number : (x : Cell) → unwrap_or (cell_value x) (pos 0) ≡ cell_number x
+unfolding cell_value cell_number
+value_number null = refl
+value_number (num z) = refl
+
+value_mark : (x : Cell) → null_mark (cell_value x) ≡ cell_mark x
+unfolding cell_value cell_mark
+value_mark null = refl
+value_mark (num z) = refl
+
 pub record CellRoom (s : List ℕ) (at : ℕ) (cells : List ℤ) (marks : List ℕ) (base n w to scratch : ℕ) : Type 0 where
   pub state : StateRoom s at cells marks base n w scratch
   pub above : base + n * w ≤ to
@@ -46,17 +69,17 @@ pub record CellDone (s : List ℕ) (at : ℕ) (cells : List ℤ) (marks : List �
   pub number : get_or cells' to (pos 0) ≡ cell_number (aggregate (aggregate_at s at) (rows_from cells marks w base n))
   pub mark : get_or marks' to 0 ≡ cell_mark (aggregate (aggregate_at s at) (rows_from cells marks w base n))
 
--- the answer is written; x is its number as it comes back from its bits
-pub cell-done : {s : List ℕ} {at : ℕ} {cells cells₁ : List ℤ} {marks marks₁ : List ℕ} {base n w to scratch : ℕ} {st : Running} {done : Finished} {x : ℤ}
-    → CellRoom s at cells marks base n w to scratch → StateDone s at cells marks cells₁ marks₁ base n w scratch st → done ≡ finish_of st → x ≡ done.cell
-    → CellDone s at cells marks (set cells₁ to x) (set marks₁ to done.mark) base n w to scratch
-cell-done {s} {at} {cells} {cells₁} {marks} {marks₁} {base} {n} {w} {to} {scratch} {st} {done} {x} r d e f = record {
+-- the answer is written, a null as 0 with mark 1
+pub cell-done : {s : List ℕ} {at : ℕ} {cells cells₁ : List ℤ} {marks marks₁ : List ℕ} {base n w to scratch : ℕ} {st : Running} {x : ℤ} {m : ℕ}
+    → CellRoom s at cells marks base n w to scratch → StateDone s at cells marks cells₁ marks₁ base n w scratch st → x ≡ unwrap_or (finish_of st) (pos 0)
+    → m ≡ null_mark (finish_of st) → CellDone s at cells marks (set cells₁ to x) (set marks₁ to m) base n w to scratch
+cell-done {s} {at} {cells} {cells₁} {marks} {marks₁} {base} {n} {w} {to} {scratch} {st} {x} {m} r d e f = record {
   kept = record {
     cells-kept = kept_then (kept_wider d.kept.cells-kept (omega (arith, r.before)) (omega arith)) (kept_set cells₁ to x to (scratch + scratch_for n) (omega arith) (omega (arith, r.before)));
-    marks-kept = kept_then (kept_wider d.kept.marks-kept (omega (arith, r.before)) (omega arith)) (kept_set marks₁ to done.mark to (scratch + scratch_for n) (omega arith) (omega (arith, r.before)));
+    marks-kept = kept_then (kept_wider d.kept.marks-kept (omega (arith, r.before)) (omega arith)) (kept_set marks₁ to m to (scratch + scratch_for n) (omega arith) (omega (arith, r.before)));
   };
-  number = get_or-set_same cells₁ to x (pos 0) (omega (arith, r.before, r.state.run.cells-room, d.kept.cells-kept.long)) ∙ f ∙ ap (λ (y : Finished). y.cell) e ∙ d.answers.number;
-  mark = get_or-set_same marks₁ to done.mark 0 (omega (arith, r.before, r.state.run.marks-room, d.kept.marks-kept.long)) ∙ ap (λ (y : Finished). y.mark) e ∙ d.answers.mark;
+  number = get_or-set_same cells₁ to x (pos 0) (omega (arith, r.before, r.state.run.cells-room, d.kept.cells-kept.long)) ∙ e ∙ ap (λ (o : Option ℤ). unwrap_or o (pos 0)) d.answers ∙ value_number (aggregate (aggregate_at s at) (rows_from cells marks w base n));
+  mark = get_or-set_same marks₁ to m 0 (omega (arith, r.before, r.state.run.marks-room, d.kept.marks-kept.long)) ∙ f ∙ ap null_mark d.answers ∙ value_mark (aggregate (aggregate_at s at) (rows_from cells marks w base n));
 }
 
 -- ---- every aggregate
@@ -176,25 +199,34 @@ module _ {s : List ℕ} {at : ℕ} {cells : List ℤ} {marks : List ℕ} {base n
   first-long : length first ≡ w
   first-long = r.run.held.wide 0 (omega (arith, rows_long cells marks w base n, r.some))
 
-  pub key-room : KeyRoom s (at + 3) (byte s (at + 1)) cells marks base to
+  columns-many : length (columns_from s at) ≡ byte s (at + 1)
+  columns-many = columns-long s (at + 3) (byte s (at + 1))
+
+  columns-narrow : (i : ℕ) → i < length (columns_from s at) → get_or (columns_from s at) i 0 < w
+  columns-narrow i l =
+      let k : i < byte s (at + 1) = omega (arith, columns-many) in
+      rw (columns_at s (at + 3) (byte s (at + 1)) i k) (r.narrow i k)
+
+  key-room : PickRoom cells marks (At (key_place (columns_from s at) base)) to (length (columns_from s at))
   key-room = record {
-    inside = omega (arith, head_inside);
-    pick = record {
-      below = λ i l. omega (arith, r.narrow i l, one-row, r.above);
-      cells_to = omega (arith, r.run.cells-room);
-      marks_to = omega (arith, r.run.marks-room);
-    };
+    below = λ i k l g. omega (arith, g, columns-narrow i l, one-row, r.above);
+    cells_to = omega (arith, columns-many, r.run.cells-room);
+    marks_to = omega (arith, columns-many, r.run.marks-room);
   }
 
-  module _ {cells₁ : List ℤ} {marks₁ : List ℕ} (p : PickDone cells marks cells₁ marks₁ (key_place s (at + 3) base) to (byte s (at + 1))) where
+  module _ {cells₁ : List ℤ} {marks₁ : List ℕ} (p : PickDone cells marks cells₁ marks₁ (At (key_place (columns_from s at) base)) to (length (columns_from s at))) where
     key-written : Held cells₁ marks₁ to (key (columns_from s at) first)
     key-written =
-        key-held s (at + 3) (byte s (at + 1)) first p first-held (λ i l. rw first-long (r.narrow i l)) (omega (arith, r.run.cells-room)) (omega (arith, r.run.marks-room))
+        key-held (columns_from s at) first p first-held (λ i l. rw first-long (columns-narrow i l))
+        (omega (arith, columns-many, r.run.cells-room)) (omega (arith, columns-many, r.run.marks-room))
+
+    key-wide : length (key (columns_from s at) first) ≡ byte s (at + 1)
+    key-wide = key-long (columns_from s at) first ∙ columns-many
 
     same_rows : rows_from cells₁ marks₁ w base n ≡ rows_from cells marks w base n
     same_rows = rows_same n r.run.held (picked_untouched p) r.above
 
-    pub answers-room : CellsRoom s (at + 3 + byte s (at + 1)) (byte s (at + 2)) cells₁ marks₁ base n w (to + byte s (at + 1)) (to + byte s (at + 1) + byte s (at + 2))
+    answers-room : CellsRoom s (at + 3 + byte s (at + 1)) (byte s (at + 2)) cells₁ marks₁ base n w (to + byte s (at + 1)) (to + byte s (at + 1) + byte s (at + 2))
     answers-room = record {
       each = λ j l. rw same_rows (r.each j l);
       run = run-stays r.run (picked_untouched p) r.above;
@@ -202,13 +234,30 @@ module _ {s : List ℕ} {at : ℕ} {cells : List ℤ} {marks : List ℕ} {base n
       before = omega arith;
     }
 
-    pub row_done : {cells₂ : List ℤ} {marks₂ : List ℕ}
+    row_done : {cells₂ : List ℤ} {marks₂ : List ℕ}
         → CellsDone s (at + 3 + byte s (at + 1)) (byte s (at + 2)) cells₁ marks₁ cells₂ marks₂ base n w (to + byte s (at + 1)) (to + byte s (at + 1) + byte s (at + 2))
         → RowDone s at cells marks cells₂ marks₂ base n w to
     unfolding group_row
     row_done d = record {
-      kept = untouched_then (untouched_wider (picked_untouched p) (omega arith) (omega arith)) (untouched_wider d.kept (omega arith) (omega arith));
+      kept = untouched_then (untouched_wider (picked_untouched p) (omega arith) (omega (arith, columns-many))) (untouched_wider d.kept (omega arith) (omega arith));
       written = held_both (key (columns_from s at) first) (answers_of s (at + 3 + byte s (at + 1)) (byte s (at + 2)) (rows_from cells marks w base n))
-          (held_below d.kept (rw (key-long s (at + 3) (byte s (at + 1)) first) (omega arith)) key-written)
-          (held_to (ap (λ (k : ℕ). to + k) (sym (key-long s (at + 3) (byte s (at + 1)) first))) (rw same_rows at d.written));
+          (held_below d.kept (rw key-wide (omega arith)) key-written)
+          (held_to (ap (λ (k : ℕ). to + k) (sym key-wide)) (rw same_rows at d.written));
     }
+
+  -- the same by the columns as the code has them
+  module _ {cols : List ℕ} (o : cols ≡ columns_from s at) where
+    pub columns-size : length cols ≡ byte s (at + 1)
+    columns-size = ap length o ∙ columns-many
+
+    pub columns-room : PickRoom cells marks (At (key_place cols base)) to (length cols)
+    columns-room = rw o key-room
+
+    module _ {cells₁ : List ℤ} {marks₁ : List ℕ} (p : PickDone cells marks cells₁ marks₁ (At (key_place cols base)) to (length cols)) where
+      pub cells-room : CellsRoom s (at + 3 + length cols) (byte s (at + 2)) cells₁ marks₁ base n w (to + length cols) (to + length cols + byte s (at + 2))
+      cells-room = rw columns-size (answers-room (rw o at p))
+
+      pub group_done : {cells₂ : List ℤ} {marks₂ : List ℕ}
+          → CellsDone s (at + 3 + length cols) (byte s (at + 2)) cells₁ marks₁ cells₂ marks₂ base n w (to + length cols) (to + length cols + byte s (at + 2))
+          → RowDone s at cells marks cells₂ marks₂ base n w to
+      group_done d = row_done (rw o at p) (rw columns-size at d)

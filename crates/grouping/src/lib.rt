@@ -1,74 +1,69 @@
 #![tactic(auto)]
 
 // The rows of a grouping, from its input's rows in a lent area.
-ghost use Rattle.std.specs.Prelude.{◌≡◌};
+ghost use Rattle.std.specs.Prelude.{◌≡◌, ℕ, ◌+◌, ◌<◌, ◌≤◌, length};
 ghost use Rattle.meaning.specs.Running.{rows_from};
-ghost use Rattle.sorting.specs.Sorting.{columns};
+ghost use Rattle.node_bytes.specs.Nodes.{byte};
+ghost use Rattle.arrangement.proofs.Roots.{columns_from};
+ghost use Rattle.regions.specs.Reading.{cell_of};
+ghost use Rattle.running.specs.Rows.{cell_value};
 ghost use Rattle.groups.proofs.Runs.{RunEnd};
-ghost use Rattle.grouping.specs.Picking.{PickRoom, PickDone, KeyRoom, key_place, column_place};
-ghost use Rattle.grouping.specs.Feeding.{FeedRoom, Fed};
+ghost use Rattle.grouping.specs.Picking.{PickRoom, PickDone};
+ghost use Rattle.grouping.specs.Feeding.{CellIn, FeedRoom, Fed};
 ghost use Rattle.grouping.specs.Single.{needs_order, StateRoom, StateDone};
 ghost use Rattle.grouping.specs.Writing.{CellRoom, CellDone, CellsRoom, CellsDone, RowRoom, RowDone};
 ghost use Rattle.grouping.specs.Ending.{EndRoom};
 ghost use Rattle.grouping.specs.Grouping.{GroupRoom, RunsDone, GroupDone};
 
 use regions::Rows;
+use running::Running;
 
-// Writes the listed columns of the row from a place on.
-fn write_key(
-    s: &[u8],
-    from: usize,
-    n: usize,
-    cells: &mut [i64],
-    marks: &mut [u8],
-    row: usize,
-    to: usize,
-)
-    requires { KeyRoom s.now from n cells.old marks.old row to }
-    ensures { PickDone cells.old marks.old cells.new marks.new (key_place s.now from row) to n }
+// The cell at a place, None for null.
+#[tactic(auto, unfolding(regions::specs::Reading::cell_of, meaning::specs::Running::cell_from, running::specs::Rows::cell_value))]
+fn cell_at(cells: &[i64], marks: &[u8], place: usize) -> Option<i64>
+    requires { CellIn cells.now marks.now place }
+    ensures { result ≡ cell_value (cell_of cells.now marks.now place) }
 {
-    let mut j = 0;
-    while j < n {
-        let place = row + s[from + j] as usize;
-        let cell = cells[place];
-        let mark = marks[place];
-        cells[to + j] = cell;
-        marks[to + j] = mark;
-        j += 1;
+    match marks[place] {
+        0 => Some(cells[place]),
+        _ => None,
     }
 }
 
-// Copies a column of n rows to another place, cell behind cell.
-fn copy_column(cells: &mut [i64], marks: &mut [u8], from: usize, n: usize, w: usize, to: usize)
-    requires { PickRoom cells.old marks.old (column_place from w) to n }
-    ensures { PickDone cells.old marks.old cells.new marks.new (column_place from w) to n }
+// Writes n cells behind one another, each from its place below them.
+fn pick<F: Fn(usize) -> usize>(cells: &mut [i64], marks: &mut [u8], to: usize, n: usize, place: F)
+    requires callable { (i : ℕ) → i < n → F.pre place i }
+    requires room { PickRoom cells.old marks.old (F.post place) to n }
+    ensures { PickDone cells.old marks.old cells.new marks.new (F.post place) to n }
 {
-    let mut j = 0;
-    while j < n {
-        let place = from + j * w;
-        let cell = cells[place];
-        let mark = marks[place];
-        cells[to + j] = cell;
-        marks[to + j] = mark;
-        j += 1;
+    for j in 0..n {
+        let from = place(j);
+        cells[to + j] = cells[from];
+        marks[to + j] = marks[from];
     }
+}
+
+// The columns that the grouping at a place lists as its key.
+fn key_columns(s: &[u8], at: usize) -> &[u8]
+    requires { at + 3 + byte s.now (at + 1) ≤ length s.now }
+    ensures { result.now ≡ columns_from s.now at }
+{
+    let n = s[at + 1] as usize;
+    &s[at + 3..at + 3 + n]
 }
 
 // The state of an aggregate that has taken the rows, by its number and its columns v and c.
-fn feed(name: u8, v: usize, c: usize, cells: &[i64], marks: &[u8], rows: Rows) -> running::Running
+fn feed(name: u8, v: usize, c: usize, cells: &[i64], marks: &[u8], rows: Rows) -> Running
     requires { FeedRoom name v c cells.now marks.now rows.at rows.count rows.width }
     ensures { Fed name v c cells.now marks.now rows.at rows.count rows.width result }
 {
-    let mut state = running::Running::new(name);
-    let mut k = 0;
-    while k < rows.count {
+    let mut state = Running::new(name);
+    for k in 0..rows.count {
         let row = rows.at + k * rows.width;
-        let v_cell = cells[row + v];
-        let v_mark = marks[row + v];
-        let c_cell = cells[row + c];
-        let c_mark = marks[row + c];
-        state = state.add(v_cell, v_mark, c_cell, c_mark);
-        k += 1;
+        state = state.add(
+            cell_at(cells, marks, row + v),
+            cell_at(cells, marks, row + c),
+        );
     }
     state
 }
@@ -78,13 +73,10 @@ fn feed(name: u8, v: usize, c: usize, cells: &[i64], marks: &[u8], rows: Rows) -
 fn needs_order(name: u8, rows: usize) -> bool
     ensures { result ≡ needs_order name rows }
 {
-    if rows < 2 {
-        return false;
-    }
-    running::distinct(name)
+    2 <= rows && running::distinct(name)
 }
 
-// The state of the aggregate at a place of the node over a run's rows; a distinct one's c is 0, which lists the copy's one column.
+// The state of the aggregate at a place of the node over a run's rows; a distinct one reads its column alone, from a sorted copy.
 fn run_state(
     s: &[u8],
     at: usize,
@@ -92,7 +84,7 @@ fn run_state(
     marks: &mut [u8],
     rows: Rows,
     scratch: usize,
-) -> running::Running
+) -> Running
     requires { StateRoom s.now at cells.old marks.old rows.at rows.count rows.width scratch }
     ensures { StateDone s.now at cells.old marks.old cells.new marks.new rows.at rows.count rows.width scratch result }
 {
@@ -102,23 +94,19 @@ fn run_state(
         let c = s[at + 2] as usize;
         return feed(name, v, c, cells, marks, rows);
     }
-    copy_column(cells, marks, rows.at + v, rows.count, rows.width, scratch);
-    sorting::sort_rows(
-        s,
-        at + 2,
-        1,
+    pick(
         cells,
         marks,
         scratch,
         rows.count,
-        1,
-        scratch + rows.count,
+        |k| rows.at + v + k * rows.width,
     );
     let column = Rows {
         at: scratch,
         count: rows.count,
         width: 1,
     };
+    sorting::sort_rows(&[0], cells, marks, column, scratch + rows.count);
     feed(name, 0, 0, cells, marks, column)
 }
 
@@ -135,12 +123,9 @@ fn write_aggregate(
     requires { CellRoom s.now at cells.old marks.old rows.at rows.count rows.width to scratch }
     ensures { CellDone s.now at cells.old marks.old cells.new marks.new rows.at rows.count rows.width to scratch }
 {
-    let state = run_state(s, at, cells, marks, rows, scratch);
-    let done = state.finish();
-    let cell = done.cell;
-    let mark = done.mark;
-    cells[to] = cell;
-    marks[to] = mark;
+    let (_, answer) = run_state(s, at, cells, marks, rows, scratch).finish();
+    cells[to] = answer.unwrap_or(0);
+    marks[to] = u8::from(answer.is_none());
 }
 
 // Writes what each of n aggregates answers over a run's rows.
@@ -157,10 +142,8 @@ fn write_aggregates(
     requires { CellsRoom s.now at n cells.old marks.old rows.at rows.count rows.width to scratch }
     ensures { CellsDone s.now at n cells.old marks.old cells.new marks.new rows.at rows.count rows.width to scratch }
 {
-    let mut j = 0;
-    while j < n {
+    for j in 0..n {
         write_aggregate(s, at + 3 * j, cells, marks, rows, to + j, scratch);
-        j += 1;
     }
 }
 
@@ -169,13 +152,14 @@ fn write_group(s: &[u8], at: usize, cells: &mut [i64], marks: &mut [u8], rows: R
     requires { RowRoom s.now at cells.old marks.old rows.at rows.count rows.width to }
     ensures { RowDone s.now at cells.old marks.old cells.new marks.new rows.at rows.count rows.width to }
 {
-    let columns = s[at + 1] as usize;
+    let columns = key_columns(s, at);
+    let n = columns.len();
     let aggregates = s[at + 2] as usize;
-    write_key(s, at + 3, columns, cells, marks, rows.at, to);
-    let behind = to + columns;
+    pick(cells, marks, to, n, |j| rows.at + columns[j] as usize);
+    let behind = to + n;
     write_aggregates(
         s,
-        at + 3 + columns,
+        at + 3 + n,
         aggregates,
         cells,
         marks,
@@ -186,27 +170,17 @@ fn write_group(s: &[u8], at: usize, cells: &mut [i64], marks: &mut [u8], rows: R
 }
 
 // The first row behind row i whose key is another one, or the number of rows.
-fn run_end(
-    s: &[u8],
-    from: usize,
-    n: usize,
-    cells: &[i64],
-    marks: &[u8],
-    rows: Rows,
-    i: usize,
-) -> usize
-    requires { EndRoom s.now from n cells.now marks.now rows.at rows.count rows.width i }
-    ensures { RunEnd (columns s.now from n) (rows_from cells.now marks.now rows.width rows.at rows.count) i result }
+fn run_end(columns: &[u8], cells: &[i64], marks: &[u8], rows: Rows, i: usize) -> usize
+    requires { EndRoom columns.now cells.now marks.now rows.at rows.count rows.width i }
+    ensures { RunEnd columns.now (rows_from cells.now marks.now rows.width rows.at rows.count) i result }
 {
     let first = rows.at + i * rows.width;
-    let mut end = i + 1;
-    while end < rows.count {
-        if !sorting::same_key(s, from, n, cells, marks, rows.at + end * rows.width, first) {
+    for end in i + 1..rows.count {
+        if !sorting::same_key(columns, cells, marks, rows.at + end * rows.width, first) {
             return end;
         }
-        end += 1;
     }
-    end
+    rows.count
 }
 
 // Writes a row for each run of rows with one key, and answers how many.
@@ -221,12 +195,13 @@ fn write_groups(
     requires { GroupRoom s.now at cells.old marks.old input.at input.count input.width out }
     ensures { RunsDone s.now at cells.old marks.old cells.new marks.new input.at input.count input.width out result }
 {
-    let columns = s[at + 1] as usize;
-    let width = columns + s[at + 2] as usize;
+    let columns = key_columns(s, at);
+    let width = columns.len() + s[at + 2] as usize;
     let mut count = 0;
     let mut i = 0;
+    // from run to run, not from row to row
     while i < input.count {
-        let end = run_end(s, at + 3, columns, cells, marks, input, i);
+        let end = run_end(columns, cells, marks, input, i);
         let run = Rows {
             at: input.at + i * input.width,
             count: end - i,
@@ -239,8 +214,8 @@ fn write_groups(
     count
 }
 
-// Writes the rows of the grouping whose node is at a place, from its input's rows, which it sorts; answers how many.
-// The scratch is the room for the rows, none of which is written before the sort is done.
+/// Writes the rows of the grouping whose node is at a place, from its input's rows, which it sorts; answers how many.
+/// The scratch is the room for the rows, none of which is written before the sort is done.
 pub fn group_rows(
     s: &[u8],
     at: usize,
@@ -252,17 +227,6 @@ pub fn group_rows(
     requires { GroupRoom s.now at cells.old marks.old input.at input.count input.width out }
     ensures { GroupDone s.now at cells.old marks.old cells.new marks.new input.at input.count input.width out result }
 {
-    let columns = s[at + 1] as usize;
-    sorting::sort_rows(
-        s,
-        at + 3,
-        columns,
-        cells,
-        marks,
-        input.at,
-        input.count,
-        input.width,
-        out,
-    );
+    sorting::sort_rows(key_columns(s, at), cells, marks, input, out);
     write_groups(s, at, cells, marks, input, out)
 }

@@ -1,25 +1,13 @@
 -- `grouping::write_aggregate` writes the finished state's cell and mark.
-use Rattle.std.proofs.Common.{rules, arith, w64, to_z-of_z}
-use Rattle.grouping.specs.Writing.{cell-done}
+use Rattle.std.proofs.Common.{rules, ap, ◌∙◌, ℤ, pos, Option, w64, to_z-of_z}
+use Rattle.std.specs.Option.{unwrap_or}
+use Rattle.running.specs.declared.Running.{Running}
+use Rattle.grouping.specs.Writing.{cell-done, null_mark, mark-null}
 use Rattle.grouping.proofs.write_aggregate.Goals as goal
-
-pub run_state-state-requires : goal.run_state-state-requires
-run_state-state-requires c = c.requires.state
-
-pub offset_bounds-cells-to : goal.offset_bounds-cells-to
-offset_bounds-cells-to c =
-    let g = c.well_formed in
-    omega (arith, c.requires, c.requires.state.run.cells-room)
-
-pub bounds-cells-to : goal.bounds-cells-to
-bounds-cells-to c =
-    omega (arith, c.requires, c.requires.state.run.cells-room, c.run_state-state.ensures.kept.cells-kept.long)
-
-pub bounds-marks-to : goal.bounds-marks-to
-bounds-marks-to c =
-    omega (arith, c.requires, c.requires.state.run.marks-room, c.run_state-state.ensures.kept.marks-kept.long)
 
 pub returns : goal.returns
 returns c =
-    cell-done c.requires c.run_state-state.ensures c.finish-done.ensures
-    (to_z-of_z {w = w64} {z = c.finish-done.result.cell} (search rules))
+    let e = ap (λ (y : Running × Option ℤ). y.1) c.finish-answer.ensures in
+    cell-done c.requires c.run_state.ensures
+    (to_z-of_z {w = w64} {z = c.unwrap_or.result} (search rules) ∙ c.unwrap_or.ensures ∙ ap (λ (o : Option ℤ). unwrap_or o (pos 0)) e)
+    (mark-null _ c.is_none.result (λ f. rw f at c.from.ensures) (λ f. rw f at c.from.ensures) c.is_none.ensures ∙ ap null_mark e)

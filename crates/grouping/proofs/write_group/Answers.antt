@@ -1,40 +1,23 @@
 -- `grouping::write_group` writes the key and then the aggregates behind it.
-use Rattle.std.proofs.Common.{arith}
-use Rattle.grouping.specs.Writing.{head_inside, key-room, answers-room, row_done}
+use Rattle.std.proofs.Common.{rules, arith}
+use Rattle.grouping.specs.Writing.{head_inside, columns-size, columns-room, cells-room, group_done}
+use Rattle.grouping.specs.Picking.{room_as, picks_as}
 use Rattle.grouping.proofs.write_group.Goals as goal
 
-pub overflow_add-columns : goal.overflow_add-columns
-overflow_add-columns c = omega (arith, head_inside c.requires)
+pub key_columns-columns-requires : goal.key_columns-columns-requires
+key_columns-columns-requires c = omega (arith, head_inside c.requires)
 
 pub bounds-s-at : goal.bounds-s-at
 bounds-s-at c = omega (arith, head_inside c.requires)
 
-pub overflow_add-aggregates : goal.overflow_add-aggregates
-overflow_add-aggregates c = omega (arith, head_inside c.requires)
-
-pub bounds-s-at-2 : goal.bounds-s-at-2
-bounds-s-at-2 c = omega (arith, head_inside c.requires)
-
-pub overflow_add-at : goal.overflow_add-at
-overflow_add-at c = omega (arith, head_inside c.requires)
-
-pub write_key-requires : goal.write_key-requires
-write_key-requires c = key-room c.requires
-
-pub overflow_add-behind : goal.overflow_add-behind
-overflow_add-behind c = omega (arith, c.requires.run.cells-room)
+pub pick-requires-clause-room : goal.pick-requires-clause-room
+pick-requires-clause-room c = room_as (λ i r l g. search rules) (columns-room c.requires c.key_columns-columns.ensures)
 
 pub overflow_add-at-2 : goal.overflow_add-at-2
-overflow_add-at-2 c = omega (arith, head_inside c.requires)
-
-pub overflow_add-at-3 : goal.overflow_add-at-3
-overflow_add-at-3 c = omega (arith, head_inside c.requires)
-
-pub overflow_add-behind-2 : goal.overflow_add-behind-2
-overflow_add-behind-2 c = omega (arith, c.requires.run.cells-room)
+overflow_add-at-2 c = omega (arith, head_inside c.requires, columns-size c.requires c.key_columns-columns.ensures)
 
 pub write_aggregates-requires : goal.write_aggregates-requires
-write_aggregates-requires c = answers-room c.requires c.write_key.ensures
+write_aggregates-requires c = cells-room c.requires c.key_columns-columns.ensures (picks_as (λ i r l g. search rules) c.pick.ensures)
 
 pub returns : goal.returns
-returns c = row_done c.requires c.write_key.ensures c.write_aggregates.ensures
+returns c = group_done c.requires c.key_columns-columns.ensures (picks_as (λ i r l g. search rules) c.pick.ensures) c.write_aggregates.ensures
