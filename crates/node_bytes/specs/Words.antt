@@ -1,6 +1,8 @@
 -- The number that eight bytes make, and that it is the one that the arrangement wrote.
-use Rattle.std.specs.Prelude.{◌≡◌, List, [], ◌∷◌, ℕ, ◌+◌, ◌*◌, ◌/◌, ◌%◌, ◌<◌, ◌≤◌, length, get_or, replicate}
+use Rattle.std.specs.Prelude.{◌≡◌, List, [], ◌∷◌, ℕ, ◌+◌, ◌-◌, ◌*◌, ◌/◌, ◌%◌, ◌<◌, ◌≤◌, length, get_or, take, drop, replicate}
 use Rattle.std.proofs.Common.{ap, ◌∙◌, add-zero, arith, lit<}
+use Rattle.std.specs.Int.{w64, from_le_bytes}
+use Rattle.std.proofs.lemmas.List.{get_or-take, get_or-drop}
 use Rattle.meaning.specs.Arrangement.{low_first}
 use Rattle.node_bytes.specs.Holding.{Holds, holds_head, holds_nil, holds-step, holds_to}
 
@@ -12,6 +14,26 @@ unfoldable pub word_at : List ℕ → ℕ → ℕ
 word_at s at =
     four (get_or s at 0) (get_or s (at + 1) 0) (get_or s (at + 2) 0) (get_or s (at + 3) 0)
     + 4294967296 * four (get_or s (at + 4) 0) (get_or s (at + 5) 0) (get_or s (at + 6) 0) (get_or s (at + 7) 0)
+
+-- the library's number of eight bytes that were copied is that
+module _ (s bs : List ℕ) (at : ℕ) (copied : bs ≡ take (at + 8 - at) (drop at s)) where
+  byte_copied : (i : ℕ) → i < 8 → get_or bs i 0 ≡ get_or s (at + i) 0
+  byte_copied i h = let q : i < at + 8 - at = omega arith in rw copied (get_or-take _ _ _ _ q ∙ get_or-drop at s i 0)
+
+  pub word_copied : from_le_bytes w64 bs ≡ word_at s at
+  unfolding word_at
+  word_copied =
+      omega (
+        arith,
+        byte_copied 0 (lit< tt) ∙ ap (λ (k : ℕ). get_or s k 0) (add-zero at),
+        byte_copied 1 (lit< tt),
+        byte_copied 2 (lit< tt),
+        byte_copied 3 (lit< tt),
+        byte_copied 4 (lit< tt),
+        byte_copied 5 (lit< tt),
+        byte_copied 6 (lit< tt),
+        byte_copied 7 (lit< tt),
+      )
 
 digits : (x b0 b1 b2 b3 b4 b5 b6 b7 : ℕ) → b0 ≡ x % 256 → b1 ≡ x / 256 % 256 → b2 ≡ x / 256 / 256 % 256 → b3 ≡ x / 256 / 256 / 256 % 256
     → b4 ≡ x / 256 / 256 / 256 / 256 % 256 → b5 ≡ x / 256 / 256 / 256 / 256 / 256 % 256 → b6 ≡ x / 256 / 256 / 256 / 256 / 256 / 256 % 256

@@ -1,8 +1,8 @@
 #![tactic(auto)]
 
 // Numbers in a byte string, and what the first byte of a node says.
-ghost use Rattle.std.specs.Prelude.{◌≡◌, ◌+◌, ◌*◌, ◌≤◌, ◌<◌, length};
-ghost use Rattle.node_bytes.specs.Words.{four, word_at};
+ghost use Rattle.std.specs.Prelude.{◌≡◌, ◌+◌, ◌≤◌, length};
+ghost use Rattle.node_bytes.specs.Words.{word_at};
 ghost use Rattle.node_bytes.specs.Tags.{tag_of};
 
 /// The kind of a node, by its first byte.
@@ -38,19 +38,13 @@ impl From<u8> for Tag {
     }
 }
 
-// The number of four bytes, the lowest first.
-fn quad(a: u8, b: u8, c: u8, d: u8) -> u64
-    ensures { (result ≡ four a b c d) × (result < 4294967296) }
-{
-    (a as u64) + 256 * (b as u64) + 65536 * (c as u64) + 16777216 * (d as u64)
-}
-
-// The number of the eight bytes from a place on, the lowest first.
+/// The number of the eight bytes from a place on, the lowest first.
+#[tactic(auto, using(crate::specs::Words::word_copied))]
 pub fn word(s: &[u8], at: usize) -> u64
     requires { at + 8 ≤ length s.now }
     ensures { result ≡ word_at s.now at }
 {
-    let low = quad(s[at], s[at + 1], s[at + 2], s[at + 3]);
-    let high = quad(s[at + 4], s[at + 5], s[at + 6], s[at + 7]);
-    low + 4294967296 * high
+    let mut bytes = [0; 8];
+    bytes.copy_from_slice(&s[at..at + 8]);
+    u64::from_le_bytes(bytes)
 }

@@ -78,11 +78,8 @@ const RULES: [[u8; 6]; 9] = [
 pub fn entry(name: usize, column: usize) -> u8
     ensures { result ≡ entry_of name column }
 {
-    if 9 <= name {
+    let Some(line) = RULES.get(name) else {
         return 9;
-    }
-    if 6 <= column {
-        return 9;
-    }
-    RULES[name][column]
+    };
+    line.get(column).copied().unwrap_or(9)
 }
