@@ -1,14 +1,15 @@
 -- Tables as three numbers each in one lent list: width, rows and start.
 use Rattle.std.specs.Prelude.{◌≡◌, refl, Bool, true, false, ◌&&◌, List, [], ◌∷◌, ℕ, zero, suc, ◌+◌, ◌-◌, ◌*◌, ◌/◌, ◌^◌, ◌<◌, ◌≤◌, eqb, leb, ltb, ℤ, pos, negsuc, nat_abs}
-use Rattle.std.proofs.Common.{sym, ◌∙◌, SFits, of_z, mul-le-mul, arith, ltb-true, ltb-false, lt-ltb, le-ltb, leb-true, le-leb, eq-eqb, ne_eqb}
+use Rattle.std.proofs.Common.{sym, ◌∙◌, SFits, of_z, arith, ltb-true, ltb-false, lt-ltb, le-ltb, leb-true, le-leb, eq-eqb, ne_eqb}
 use Rattle.std.proofs.Math.Path.{ap}
 use Rattle.std.proofs.Math.Bool.{or-false}
-use Rattle.std.proofs.Math.ListN.{length, get_or}
+use Rattle.std.proofs.Math.ListN.{length, get_or, take, drop}
 use Rattle.std.proofs.Math.Nat.{one-mul}
 use Rattle.std.specs.List.{list_all, range_with_len}
+use Rattle.std.proofs.lemmas.List.{drop-drop, get_or-take, get_or-drop}
+use Rattle.std.specs.Simd.{first_chunks}
 use Rattle.std.specs.Int.Signed.{lt_z, le_z}
 use Rattle.std.specs.Int.{w64}
-use Rattle.std.proofs.Math.Decide.{dec_le}
 use borrow.Author.Tests.{lt-leb}
 use Rattle.meaning.specs.Limits.{most_rows, most_size}
 use Rattle.meaning.specs.Cells.{eq_z}
@@ -20,6 +21,10 @@ use Rattle.node_bytes.specs.Rows.{every, every_of-range}
 unfoldable pub place_at : List ℕ → ℕ → Place
 place_at ns at = record { width = get_or ns at 0; rows = get_or ns (at + 1) 0; start = get_or ns (at + 2) 0 }
 
+-- the place that three numbers are
+abbrev pub place_of : List ℕ → Place
+place_of ns = record { width = get_or ns 0 0; rows = get_or ns 1 0; start = get_or ns 2 0 }
+
 -- n cells from a place on lie inside runs of these lengths
 unfoldable pub inside_at : ℕ → ℕ → ℕ → ℕ → Bool
 inside_at start n cells marks = leb (start + n) cells && leb (start + n) marks
@@ -29,13 +34,14 @@ unfoldable pub table_right : List ℕ → List ℤ → List ℕ → ℕ → ℕ 
 table_right ns cells marks name w =
     ltb name (length (places_in ns)) && place_right (lent_of ns cells marks) w (get_or (places_in ns) name nowhere)
 
--- a comparison on the other side of a sum
-pub leb-room : (a n m : ℕ) → n ≤ m → leb a (m - n) ≡ leb (a + n) m
-leb-room a n m h = pick (dec_le a (m - n))
-  where
-    pick : Dec (a ≤ m - n) → leb a (m - n) ≡ leb (a + n) m
-    pick (yes l) = let k : a + n ≤ m = omega arith in le-leb a (m - n) l ∙ sym (le-leb (a + n) m k)
-    pick (no l) = let j : m - n < a = omega arith in let k : m < a + n = omega arith in lt-leb a (m - n) j ∙ sym (lt-leb (a + n) m k)
+-- what lies there ends inside both runs
+pub ends_inside : (start n cells marks : ℕ) → start + n ≤ cells → leb (start + n) marks ≡ inside_at start n cells marks
+unfolding inside_at
+ends_inside start n cells marks h = simp (le-leb (start + n) cells h)
+
+pub ends_outside : (start n cells marks : ℕ) → cells < start + n → false ≡ inside_at start n cells marks
+unfolding inside_at
+ends_outside start n cells marks h = simp (lt-leb (start + n) cells h)
 
 -- ---- a cell's range, as its signed comparisons tell it
 
@@ -104,58 +110,73 @@ places-long (w ∷ []) = refl
 places-long (w ∷ r ∷ []) = refl
 places-long (w ∷ r ∷ s ∷ ns) = omega (arith, places-long ns)
 
-pub small_product : (a b : ℕ) → a < 256 → b ≤ 1024 → a * b ≤ 262144
-small_product a b h k = let l : a ≤ 256 = omega arith in let q : a * b ≤ 256 * 1024 = mul-le-mul l k in omega arith
+-- how a table comes out, at each test
+module _ (ns : List ℕ) (cells : List ℤ) (marks : List ℕ) (w : ℕ) (t : Place) where
+  pub width-other : (t.width ≡ w → ⊥) → false ≡ place_right (lent_of ns cells marks) w t
+  unfolding place_right
+  width-other n = simp (ne_eqb t.width w n)
 
--- how a table of a number comes out, at each test
+  module _ (same : t.width ≡ w) where
+    pub too_many : 1024 < t.rows → false ≡ place_right (lent_of ns cells marks) w t
+    unfolding place_right most_rows
+    too_many h = simp (eq-eqb t.width w same, lt-leb t.rows 1024 h)
+
+    module _ (few : t.rows ≤ 1024) where
+      rest : (inside_run (lent_of ns cells marks) t && cells_right cells marks t.start (t.width * t.rows)) ≡ place_right (lent_of ns cells marks) w t
+      unfolding place_right most_rows
+      rest = simp (eq-eqb t.width w same, le-leb t.rows 1024 few)
+
+      pub no_rows : t.rows ≡ 0 → true ≡ place_right (lent_of ns cells marks) w t
+      unfolding inside_run cells_right
+      no_rows z =
+          let none : t.width * t.rows ≡ 0 = ap (λ (n : ℕ). t.width * n) z ∙ (let q : t.width * 0 ≡ 0 = omega arith in q) in
+          simp (eq-eqb t.rows 0 z, none) at rest
+
+      module _ (some : t.rows ≡ 0 → ⊥) where
+        decides : (inside_at t.start (w * t.rows) (length cells) (length marks) && cells_right cells marks t.start (w * t.rows)) ≡ place_right (lent_of ns cells marks) w t
+        unfolding inside_run inside_at
+        decides = simp (ne_eqb t.rows 0 some, same) at rest
+
+        pub outside : inside_at t.start (w * t.rows) (length cells) (length marks) ≡ false → false ≡ place_right (lent_of ns cells marks) w t
+        outside e = simp e at decides
+
+        pub cells_decide : inside_at t.start (w * t.rows) (length cells) (length marks) ≡ true
+            → cells_right cells marks t.start (w * t.rows) ≡ place_right (lent_of ns cells marks) w t
+        cells_decide e = simp e at decides
+
+-- n cells that lie inside two runs
+pub cells-there : (start n : ℕ) (cells : List ℤ) (marks : List ℕ) → inside_at start n (length cells) (length marks) ≡ true → (start + n ≤ length cells) × (start + n ≤ length marks)
+unfolding inside_at
+cells-there start n cells marks e = (leb-true _ _ (and_left _ _ e), leb-true _ _ (and_right (leb (start + n) (length cells)) _ e))
+
+-- ---- the three numbers of a table
+
+drop_more : (k : ℕ) (ns : List ℕ) → take 3 (drop (3 * k) (drop 3 ns)) ≡ take 3 (drop (3 * suc k) ns)
+drop_more k ns = let q : 3 + 3 * k ≡ 3 * suc k = omega arith in ap (take 3) (drop-drop (3 * k) 3 ns ∙ ap (λ (n : ℕ). drop n ns) q)
+
+at_place : (ns : List ℕ) (at i : ℕ) → i < 3 → get_or (take 3 (drop at ns)) i 0 ≡ get_or ns (at + i) 0
+at_place ns at i h = get_or-take 3 (drop at ns) i 0 h ∙ get_or-drop at ns i 0
+
+three_at : (m k : ℕ) (ns : List ℕ) → k < m → get_or (first_chunks 3 m ns) k [] ≡ take 3 (drop (3 * k) ns)
+three_at zero k ns h = absurd (omega arith)
+three_at (suc m) zero ns h = refl
+three_at (suc m) (suc k) ns h = three_at m k (drop 3 ns) (omega arith) ∙ drop_more k ns
+
+pub three-place : (ns : List ℕ) (k : ℕ) → k < length ns / 3 → place_of (get_or (first_chunks 3 (length ns / 3) ns) k []) ≡ get_or (places_in ns) k nowhere
+unfolding place_at
+three-place ns k h =
+    let z : 3 * k + 0 ≡ 3 * k = omega arith in
+    let p : get_or (take 3 (drop (3 * k) ns)) 0 0 ≡ get_or ns (3 * k) 0 = at_place ns (3 * k) 0 (omega arith) ∙ ap (λ (n : ℕ). get_or ns n 0) z in
+    let q = at_place ns (3 * k) 1 (omega arith) in
+    let r = at_place ns (3 * k) 2 (omega arith) in
+    rw (three_at (length ns / 3) k ns h, p, q, r) (sym (places_at ns k h))
+
+-- how the table of a number comes out: there is none, or it is the one of its three numbers
 module _ (ns : List ℕ) (cells : List ℤ) (marks : List ℕ) (name w : ℕ) where
   pub table_missing : length ns / 3 ≤ name → false ≡ table_right ns cells marks name w
   unfolding table_right
   table_missing h = simp (places-long ns, le-ltb name (length ns / 3) h)
 
-  module _ (there : name < length ns / 3) where
-    by_place : place_right (lent_of ns cells marks) w (place_at ns (3 * name)) ≡ table_right ns cells marks name w
-    unfolding table_right
-    by_place =
-        let long : length (places_in ns) ≡ length ns / 3 = places-long ns in
-        let l : name < length (places_in ns) = omega arith in
-        simp (lt-ltb name (length (places_in ns)) l, places_at ns name there)
-
-    pub width-other : (get_or ns (3 * name) 0 ≡ w → ⊥) → false ≡ table_right ns cells marks name w
-    unfolding place_right place_at
-    width-other n = simp (ne_eqb (get_or ns (3 * name) 0) w n) at by_place
-
-    module _ (same : get_or ns (3 * name) 0 ≡ w) where
-      pub too_many : 1024 < get_or ns (3 * name + 1) 0 → false ≡ table_right ns cells marks name w
-      unfolding place_right place_at most_rows
-      too_many h = simp (eq-eqb (get_or ns (3 * name) 0) w same, lt-leb (get_or ns (3 * name + 1) 0) 1024 h) at by_place
-
-      module _ (few : get_or ns (3 * name + 1) 0 ≤ 1024) where
-        rest : (inside_run (lent_of ns cells marks) (place_at ns (3 * name)) && cells_right cells marks (get_or ns (3 * name + 2) 0) (get_or ns (3 * name) 0 * get_or ns (3 * name + 1) 0))
-            ≡ table_right ns cells marks name w
-        unfolding place_right place_at most_rows
-        rest = simp (eq-eqb (get_or ns (3 * name) 0) w same, le-leb (get_or ns (3 * name + 1) 0) 1024 few) at by_place
-
-        pub no_rows : get_or ns (3 * name + 1) 0 ≡ 0 → true ≡ table_right ns cells marks name w
-        unfolding inside_run place_at cells_right
-        no_rows z =
-            let none : get_or ns (3 * name) 0 * get_or ns (3 * name + 1) 0 ≡ 0 = ap (λ (n : ℕ). get_or ns (3 * name) 0 * n) z ∙ (let q : get_or ns (3 * name) 0 * 0 ≡ 0 = omega arith in q) in
-            simp (eq-eqb (get_or ns (3 * name + 1) 0) 0 z, none) at rest
-
-        module _ (some : get_or ns (3 * name + 1) 0 ≡ 0 → ⊥) where
-          decides : (inside_at (get_or ns (3 * name + 2) 0) (w * get_or ns (3 * name + 1) 0) (length cells) (length marks) && cells_right cells marks (get_or ns (3 * name + 2) 0) (w * get_or ns (3 * name + 1) 0))
-              ≡ table_right ns cells marks name w
-          unfolding inside_run inside_at place_at
-          decides = simp (ne_eqb (get_or ns (3 * name + 1) 0) 0 some, same) at rest
-
-          pub outside : inside_at (get_or ns (3 * name + 2) 0) (w * get_or ns (3 * name + 1) 0) (length cells) (length marks) ≡ false
-              → false ≡ table_right ns cells marks name w
-          outside e = simp e at decides
-
-          module _ (e : inside_at (get_or ns (3 * name + 2) 0) (w * get_or ns (3 * name + 1) 0) (length cells) (length marks) ≡ true) where
-            pub cells_decide : cells_right cells marks (get_or ns (3 * name + 2) 0) (w * get_or ns (3 * name + 1) 0) ≡ table_right ns cells marks name w
-            cells_decide = simp e at decides
-
-            pub cells-there : (get_or ns (3 * name + 2) 0 + w * get_or ns (3 * name + 1) 0 ≤ length cells) × (get_or ns (3 * name + 2) 0 + w * get_or ns (3 * name + 1) 0 ≤ length marks)
-            unfolding inside_at
-            cells-there = (leb-true _ _ (and_left _ _ e), leb-true _ _ (and_right (leb (get_or ns (3 * name + 2) 0 + w * get_or ns (3 * name + 1) 0) (length cells)) _ e))
+  pub table_there : name < length ns / 3 → place_right (lent_of ns cells marks) w (place_of (get_or (first_chunks 3 (length ns / 3) ns) name [])) ≡ table_right ns cells marks name w
+  unfolding table_right
+  table_there h = simp (places-long ns, lt-ltb name (length ns / 3) h, three-place ns name h)

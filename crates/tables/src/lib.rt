@@ -2,8 +2,8 @@
 
 // Tables in lent memory: whether one that a plan names is right.
 ghost use Rattle.std.specs.Prelude.{◌≡◌, ◌+◌, ◌*◌, ◌<◌, ◌≤◌, length};
-ghost use Rattle.meaning.specs.Running.{cell_right, cells_right};
-ghost use Rattle.tables.specs.Places.{inside_at, table_right};
+ghost use Rattle.meaning.specs.Running.{lent_of, cell_right, cells_right, place_right};
+ghost use Rattle.tables.specs.Places.{inside_at, place_of, table_right};
 
 /// What is lent to a run: the list of tables, three numbers a table, its width, rows and start, and the run of cells with a mark a cell.
 #[derive(Clone, Copy)]
@@ -18,16 +18,11 @@ pub struct Lent<'a> {
 fn cell_right(cell: i64, mark: u8) -> bool
     ensures { result ≡ cell_right cell mark }
 {
-    if mark == 0 {
-        if cell < -2147483647 {
-            return false;
-        }
-        return cell <= 2147483647;
+    match mark {
+        0 => (-2147483647..=2147483647).contains(&cell),
+        1 => cell == 0,
+        _ => false,
     }
-    if mark != 1 {
-        return false;
-    }
-    cell == 0
 }
 
 // Whether n cells from a place on are a table's.
@@ -39,44 +34,39 @@ fn cells_right(cells: &[i64], marks: &[u8], from: usize, n: usize) -> bool
 }
 
 // Whether n cells from a place on lie inside runs of these lengths.
+#[tactic(auto, using(crate::specs::Places::ends_inside, crate::specs::Places::ends_outside))]
 fn inside(start: usize, n: usize, cells: usize, marks: usize) -> bool
     ensures { result ≡ inside_at start n cells marks }
 {
-    if cells < n {
+    let Some(end) = start.checked_add(n) else {
+        return false;
+    };
+    end <= cells && end <= marks
+}
+
+// Whether the table whose width, rows and start are at a place has this width and is right.
+#[tactic(auto, using(crate::proofs::Tests::table_tests))]
+fn place_right(place: [usize; 3], lent: Lent, width: usize) -> bool
+    requires { width < 256 }
+    ensures { result ≡ place_right (lent_of lent.entry.tables.now lent.entry.cells.now lent.entry.marks.now) width (place_of place) }
+{
+    let [wide, rows, start] = place;
+    if wide != width || 1024 < rows {
         return false;
     }
-    if marks < n {
-        return false;
-    }
-    if cells - n < start {
-        return false;
-    }
-    start <= marks - n
+    rows == 0
+        || inside(start, width * rows, lent.cells.len(), lent.marks.len())
+            && cells_right(lent.cells, lent.marks, start, width * rows)
 }
 
 // Whether the table of a number is there, has this width and is right.
-#[tactic(auto, using(crate::proofs::Tests::table_tests))]
 pub fn table_right(lent: Lent, name: usize, width: usize) -> bool
     requires { width < 256 }
     ensures { result ≡ table_right lent.entry.tables.now lent.entry.cells.now lent.entry.marks.now name width }
 {
-    if lent.tables.len() / 3 <= name {
-        return false;
+    let (places, _) = lent.tables.as_chunks::<3>();
+    match places.get(name) {
+        Some(place) => place_right(*place, lent, width),
+        None => false,
     }
-    let at = 3 * name;
-    let rows = lent.tables[at + 1];
-    let start = lent.tables[at + 2];
-    if lent.tables[at] != width {
-        return false;
-    }
-    if 1024 < rows {
-        return false;
-    }
-    if rows == 0 {
-        return true;
-    }
-    if !inside(start, width * rows, lent.cells.len(), lent.marks.len()) {
-        return false;
-    }
-    cells_right(lent.cells, lent.marks, start, width * rows)
 }
