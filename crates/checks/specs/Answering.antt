@@ -2,7 +2,7 @@
 use Rattle.std.proofs.Math.Path.{◌≡◌, refl, sym, ap}
 use Rattle.std.proofs.Common.{subst, inl, inr, ◌∙◌, arith, le-leb}
 use Rattle.std.proofs.Math.Bool.{true, false}
-use Rattle.std.specs.Prelude.{List, ℕ, ◌-◌, ◌<◌, ◌≤◌, get_or, Some, None, Result, Ok, Err, IfOk, ◌⊎◌}
+use Rattle.std.specs.Prelude.{List, ℕ, ◌-◌, ◌<◌, ◌≤◌, Some, None, Result, Ok, Err, IfOk, ◌⊎◌}
 use Rattle.std.proofs.Math.Option.{Option, some, none}
 use Rattle.std.proofs.Math.Dec.{leb}
 use borrow.Author.Tests.{lt-leb}
@@ -17,7 +17,7 @@ use Rattle.refusals.specs.Numbers.{number_if, number_of}
 use Rattle.node_bytes.specs.Words.{Bytes}
 use Rattle.arrangement.proofs.Building.{plan_of, plan_sound, no_plan_lem}
 use Rattle.shapes.specs.declared.Shape.{Shape}
-use Rattle.shapes.specs.Shapes.{shape_of, start_of}
+use Rattle.shapes.specs.Shapes.{shape_of}
 use Rattle.checks.specs.Verdicts.{check_tree}
 use Rattle.checks.specs.Standing.{stands-whole}
 use Rattle.checks.specs.Shaping.{plan_shape, shape_plan}
@@ -44,74 +44,74 @@ record Planned (s : List ℕ) (h : Shape) : Type 0 where
   many : h.nodes ≡ nodes plan
   tables : h.leaves ≡ leaves plan
 
-module _ (s : List ℕ) (b : Bytes s) (h : Shape) (e : h ≡ shape_of s) where
-  planned : h.ok ≡ true → Planned s h
-  unfolding plan_shape
-  planned ok = pick (plan_of s) refl (e ∙ shape_plan s)
-    where
-      pick : (o : Option Plan) → plan_of s ≡ o → h ≡ plan_shape o → Planned s h
-      pick none q k = absurd (let x : true ≡ false = sym ok ∙ ap (λ (z : Shape). z.ok) k in let z : ◌≡◌ {A = ℕ} 0 1 = cc in omega arith)
-      pick (some p) q k = record {
-        plan = p;
-        string = plan_sound s b p q;
-        many = ap (λ (z : Shape). z.nodes) k;
-        tables = ap (λ (z : Shape). z.leaves) k;
-      }
+-- no shape: no plan's bytes
+pub root_none : {s : List ℕ} → None ≡ shape_of s → RootOf s (Err NoPlan)
+unfolding plan_shape
+root_none {s} e = pick (plan_of s) refl (e ∙ shape_plan s)
+  where
+    pick : (o : Option Plan) → plan_of s ≡ o → None ≡ plan_shape o → RootOf s (Err NoPlan)
+    pick none q k = for_none (no_plan_lem s q)
+    pick (some p) q k = cc
 
-  -- no shape: no plan's bytes
-  pub root_none : h.ok ≡ false → RootOf s (Err NoPlan)
+module _ (s : List ℕ) (b : Bytes s) (h : Shape) (e : Some h ≡ shape_of s) where
+  planned : Planned s h
   unfolding plan_shape
-  root_none bad = pick (plan_of s) refl (e ∙ shape_plan s)
+  planned = pick (plan_of s) refl (e ∙ shape_plan s)
     where
-      pick : (o : Option Plan) → plan_of s ≡ o → h ≡ plan_shape o → RootOf s (Err NoPlan)
-      pick none q k = for_none (no_plan_lem s q)
-      pick (some p) q k = absurd (let x : false ≡ true = sym bad ∙ ap (λ (z : Shape). z.ok) k in let z : ◌≡◌ {A = ℕ} 0 1 = cc in omega arith)
+      pick : (o : Option Plan) → plan_of s ≡ o → Some h ≡ plan_shape o → Planned s h
+      pick none q k = cc
+      pick (some p) q k =
+          let same : h ≡ record { nodes = nodes p; leaves = leaves p } = cc in
+          record {
+            plan = p;
+            string = plan_sound s b p q;
+            many = ap (λ (z : Shape). z.nodes) same;
+            tables = ap (λ (z : Shape). z.leaves) same;
+          }
 
   -- too many nodes, or too many tables
-  pub root_large : h.ok ≡ true → (12 < h.nodes) ⊎ (h.nodes ≤ 12 × 3 < h.leaves) → RootOf s (Err Limits)
+  pub root_large : (12 < h.nodes) ⊎ (h.nodes ≤ 12 × 3 < h.leaves) → RootOf s (Err Limits)
   unfolding most_nodes most_leaves
-  root_large ok (inl l) =
-      let p : Planned s h = planned ok in
+  root_large (inl l) =
+      let p : Planned s h = planned in
       let a : leb (nodes p.plan) 12 ≡ false = lt-leb (nodes p.plan) 12 (omega (arith, p.many)) in
       for_root p.plan p.string (sym (check_tree p.plan ∙ rw a)) tt
-  root_large ok (inr (n, l)) =
-      let p : Planned s h = planned ok in
+  root_large (inr (n, l)) =
+      let p : Planned s h = planned in
       let a : leb (nodes p.plan) 12 ≡ true = le-leb (nodes p.plan) 12 (omega (arith, p.many)) in
       let c : leb (leaves p.plan) 3 ≡ false = lt-leb (leaves p.plan) 3 (omega (arith, p.tables)) in
       for_root p.plan p.string (sym (check_tree p.plan ∙ rw (a, c))) tt
 
   -- a string with a shape has a root, and the plan stands in it
-  pub root-some : h.ok ≡ true → 0 < h.nodes
-  root-some ok = let p : Planned s h = planned ok in omega (arith, p.many, nodes-some p.plan)
+  pub root-some : 0 < h.nodes
+  root-some = let p : Planned s h = planned in omega (arith, p.many, nodes-some p.plan)
 
-  pub root-standing : (st : List ℕ) → ((k : ℕ) → k < 12 → get_or st k 0 ≡ start_of s k) → h.ok ≡ true → h.nodes ≤ 12
-      → Standing s st (h.nodes - 1)
-  root-standing st told ok n =
-      let p : Planned s h = planned ok in
+  pub root-standing : h.nodes ≤ 12 → Standing s (h.nodes - 1)
+  root-standing n =
+      let p : Planned s h = planned in
       record {
         tree = p.plan;
         first = 0;
         last = omega (arith, p.many, nodes-some p.plan);
         stands = stands-whole p.plan s p.string;
-        few = omega (arith, root-some ok);
-        told = told;
+        few = omega (arith, root-some);
       }
 
   -- the node of the root: its number is the check's, and its width the plan's
-  module _ (r : Node) (d : Describes s (h.nodes - 1) r) (ok : h.ok ≡ true) (n : h.nodes ≤ 12) (l : h.leaves ≤ 3) where
-    abbrev root : Described (planned ok).plan 0 r
-    root = let p : Planned s h = planned ok in d p.plan 0 (omega (arith, p.many, nodes-some p.plan)) (stands-whole p.plan s p.string)
+  module _ (r : Node) (d : Describes s (h.nodes - 1) r) (n : h.nodes ≤ 12) (l : h.leaves ≤ 3) where
+    root : Described planned.plan 0 r
+    root = let p : Planned s h = planned in d p.plan 0 (omega (arith, p.many, nodes-some p.plan)) (stands-whole p.plan s p.string)
 
-    root_number : number_if r.refusal ≡ check_number (planned ok).plan
+    root_number : number_if r.refusal ≡ check_number planned.plan
     unfolding most_nodes most_leaves
     root_number =
-        let p : Planned s h = planned ok in
+        let p : Planned s h = planned in
         let a : leb (nodes p.plan) 12 ≡ true = le-leb (nodes p.plan) 12 (omega (arith, p.many)) in
         let c : leb (leaves p.plan) 3 ≡ true = le-leb (leaves p.plan) 3 (omega (arith, p.tables)) in
         root.number ∙ sym (check_tree p.plan ∙ rw (a, c))
 
-    pub root_refused : (refusal : Refusal) → r.refusal ≡ Some refusal → RootOf s (Err refusal)
-    root_refused refusal e = let p : Planned s h = planned ok in for_root p.plan p.string (sym (ap number_if e) ∙ root_number) tt
+    pub root_refused : {refusal : Refusal} → r.refusal ≡ Some refusal → RootOf s (Err refusal)
+    root_refused e = let p : Planned s h = planned in for_root p.plan p.string (sym (ap number_if e) ∙ root_number) tt
 
     pub root_passes : r.refusal ≡ None → RootOf s (Ok (record { nodes = h.nodes; width = r.width }))
-    root_passes e = let p : Planned s h = planned ok in for_root p.plan p.string (sym (ap number_if e) ∙ root_number) (p.many, root.wide)
+    root_passes e = let p : Planned s h = planned in for_root p.plan p.string (sym (ap number_if e) ∙ root_number) (p.many, root.wide)

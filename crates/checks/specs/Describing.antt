@@ -1,5 +1,5 @@
 -- What the check knows of a node: the number, width, place and kinds of the subtree whose root it is.
-use Rattle.std.specs.Prelude.{◌≡◌, true, List, [], ◌∷◌, map, ℕ, ◌+◌, ◌*◌, ◌-◌, ◌<◌, ◌≤◌, get_or, take}
+use Rattle.std.specs.Prelude.{◌≡◌, true, List, [], ◌∷◌, map, ℕ, ◌+◌, ◌*◌, ◌-◌, ◌<◌, ◌≤◌, take}
 use Rattle.std.proofs.Common.{sym, ap, ◌∙◌, lit<, arith}
 use Rattle.std.proofs.Math.Path.{subst}
 use Rattle.std.proofs.Math.ListN.{length}
@@ -46,14 +46,13 @@ DescribesGroup s at i out =
     (cols : List ℕ) (aggs : List Aggregate) (p : Plan) (f : ℕ) → Holds s at (group_bytes cols aggs) → Described p f i
     → Described (group cols aggs p) f out
 
--- a plan whose root is the n-th node stands in the string, and the starts of its nodes are at hand
-pub record Standing (s st : List ℕ) (n : ℕ) : Type 0 where
+-- a plan whose root is the n-th node stands in the string
+pub record Standing (s : List ℕ) (n : ℕ) : Type 0 where
   pub tree : Plan
   pub first : ℕ
   pub last : first + nodes tree ≡ n + 1
   pub stands : Stands s first tree
   pub few : n < 12
-  pub told : (k : ℕ) → k < 12 → get_or st k 0 ≡ start_of s k
 
 pub nodes-some : (t : Plan) → 0 < nodes t
 unfolding nodes
@@ -92,18 +91,12 @@ join_no_group s at j ps h e = eqb-false (join_number j) 4 (kind_no_group j) (sym
 pub group_no_table : (s : List ℕ) (at : ℕ) (cols : List ℕ) (aggs : List Aggregate) → Holds s at (group_bytes cols aggs) → byte s at ≡ 0 → ⊥
 group_no_table s at cols aggs h e = let q : byte s at ≡ 4 = group-number s at cols aggs h in omega arith
 
--- ---- what the code may use at the n-th node
+-- ---- what the code may use at the n-th node, which starts at a place
 
-module _ {s st : List ℕ} {n : ℕ} (c : Standing s st n) where
-  abbrev here : ℕ
-  here = get_or st n 0
-
-  pub here_is : here ≡ start_of s n
-  here_is = c.told n c.few
-
+module _ {s : List ℕ} {n at : ℕ} (c : Standing s n) (here : at ≡ start_of s n) where
   -- the root has at least three bytes
-  pub root-inside : here + 3 ≤ length s
-  root-inside = subst (λ (a : ℕ). a + 3 ≤ length s) (sym here_is) (pick c.tree c.last c.stands)
+  pub root-inside : at + 3 ≤ length s
+  root-inside = subst (λ (a : ℕ). a + 3 ≤ length s) (sym here) (pick c.tree c.last c.stands)
     where
       pick : (t : Plan) → c.first + nodes t ≡ n + 1 → Stands s c.first t → start_of s n + 3 ≤ length s
       pick (leaf t w) e h = (held-leaf s c.first n t w e h).fits
@@ -113,18 +106,18 @@ module _ {s st : List ℕ} {n : ℕ} (c : Standing s st n) where
           omega (arith, (held-group s c.first n cols aggs i e h).fits, group-some cols aggs)
 
 -- a node that is no table has its right or only input just before it
-pub record Before (s st : List ℕ) (n : ℕ) : Type 0 where
+pub record Before (s : List ℕ) (n : ℕ) : Type 0 where
   pub some : 0 < n
-  pub stands : Standing s st (n - 1)
+  pub stands : Standing s (n - 1)
 
-pub before-node : {s st : List ℕ} {n : ℕ} → Standing s st n → (byte s (get_or st n 0) ≡ 0 → ⊥) → Before s st n
+pub before-node : {s : List ℕ} {n at : ℕ} → Standing s n → at ≡ start_of s n → (byte s at ≡ 0 → ⊥) → Before s n
 unfolding Stands nodes
-before-node {s} {st} {n} c other = pick c.tree c.last c.stands
+before-node {s} {n} c here other = pick c.tree c.last c.stands
   where
     tag : byte s (start_of s n) ≡ 0 → ⊥
-    tag q = other (ap (byte s) (here_is c) ∙ q)
+    tag q = other (ap (byte s) here ∙ q)
 
-    pick : (t : Plan) → c.first + nodes t ≡ n + 1 → Stands s c.first t → Before s st n
+    pick : (t : Plan) → c.first + nodes t ≡ n + 1 → Stands s c.first t → Before s n
     pick (leaf t w) e h = absurd (tag (tag-leaf s (start_of s n) t w (held-leaf s c.first n t w e h)))
     pick (join j ps l r) e h = record {
       some = omega (arith, nodes-some l, e);
@@ -134,12 +127,11 @@ before-node {s} {st} {n} c other = pick c.tree c.last c.stands
         last = omega (arith, nodes-some r, e);
         stands = h.1.0;
         few = omega (arith, c.few);
-        told = c.told;
       };
     }
     pick (group cols aggs i) e h = record {
       some = omega (arith, nodes-some i, e);
-      stands = record { tree = i; first = c.first; last = omega (arith, nodes-some i, e); stands = h.0; few = omega (arith, c.few); told = c.told };
+      stands = record { tree = i; first = c.first; last = omega (arith, nodes-some i, e); stands = h.0; few = omega (arith, c.few) };
     }
 
 -- ---- widths are small: a node of 255 and 255 columns at the most for each node below
@@ -159,13 +151,13 @@ width_small s b (group cols aggs i) f h =
 
 -- ---- a grouping, at the n-th node
 
-module _ {s st : List ℕ} {n : ℕ} (c : Standing s st n) (b : Bytes s) (four : byte s (get_or st n 0) ≡ 4) where
+module _ {s : List ℕ} {n at : ℕ} (c : Standing s n) (here : at ≡ start_of s n) (four : byte s at ≡ 4) where
   group-here : byte s (start_of s n) ≡ 4
-  group-here = sym (ap (byte s) (here_is c)) ∙ four
+  group-here = sym (ap (byte s) here) ∙ four
 
   -- the node ends inside the string
-  pub group-inside : get_or st n 0 + group_size s (get_or st n 0) ≤ length s
-  group-inside = subst (λ (a : ℕ). a + group_size s a ≤ length s) (sym (here_is c)) (pick c.tree c.last c.stands)
+  pub group-inside : at + group_size s at ≤ length s
+  group-inside = subst (λ (a : ℕ). a + group_size s a ≤ length s) (sym here) (pick c.tree c.last c.stands)
     where
       pick : (t : Plan) → c.first + nodes t ≡ n + 1 → Stands s c.first t → start_of s n + group_size s (start_of s n) ≤ length s
       pick (leaf t w) e h = absurd (let q : byte s (start_of s n) ≡ 0 = tag-leaf s (start_of s n) t w (held-leaf s c.first n t w e h) in omega (arith, group-here))
@@ -175,32 +167,32 @@ module _ {s st : List ℕ} {n : ℕ} (c : Standing s st n) (b : Bytes s) (four :
           omega (arith, g.fits, group-long s (start_of s n) cols aggs g)
 
   -- what the input's node and the grouping above it describe
-  pub group_describes : (i out : Node) → Describes s (n - 1) i → DescribesGroup s (get_or st n 0) i out → Describes s n out
+  pub group_describes : (i out : Node) → Describes s (n - 1) i → DescribesGroup s at i out → Describes s n out
   unfolding Stands nodes
   group_describes i out below above (leaf t w) f e h =
       absurd (let q : byte s (start_of s n) ≡ 0 = tag-leaf s (start_of s n) t w (held-leaf s f n t w e h) in omega (arith, group-here))
   group_describes i out below above (join j ps l r) f e h = absurd (join_no_group s (start_of s n) j ps (held-join s f n j ps l r e h) group-here)
   group_describes i out below above (group cols aggs p) f e h =
       above cols aggs p f
-      (holds_to (sym (here_is c)) (held-group s f n cols aggs p e h))
+      (holds_to (sym here) (held-group s f n cols aggs p e h))
       (below p f (omega (arith, nodes-some p, e)) h.0)
 
 -- ---- a join, at the n-th node
 
-module _ {s st : List ℕ} {n : ℕ} (c : Standing s st n) (b : Bytes s) (table : byte s (get_or st n 0) ≡ 0 → ⊥) (four : byte s (get_or st n 0) ≡ 4 → ⊥)
+module _ {s : List ℕ} {n at : ℕ} (c : Standing s n) (here : at ≡ start_of s n) (b : Bytes s) (table : byte s at ≡ 0 → ⊥) (four : byte s at ≡ 4 → ⊥)
     (r : Node) (right : Describes s (n - 1) r) where
   no_table : byte s (start_of s n) ≡ 0 → ⊥
-  no_table q = table (ap (byte s) (here_is c) ∙ q)
+  no_table q = table (ap (byte s) here ∙ q)
 
   no_group : byte s (start_of s n) ≡ 4 → ⊥
-  no_group q = four (ap (byte s) (here_is c) ∙ q)
+  no_group q = four (ap (byte s) here ∙ q)
 
   -- the left input stands before the right one's first node
   pub record Left : Type 0 where
     pub some : 0 < r.first
     pub below : r.first - 1 < n
-    pub stands : Standing s st (r.first - 1)
-    pub inside : get_or st n 0 + join_size s (get_or st n 0) ≤ length s
+    pub stands : Standing s (r.first - 1)
+    pub inside : at + join_size s at ≤ length s
     pub right-small : r.width < 65536
 
   pub left-node : Left
@@ -222,9 +214,8 @@ module _ {s st : List ℕ} {n : ℕ} (c : Standing s st n) (b : Bytes s) (table 
               last = omega (arith, d.starts, nodes-some p);
               stands = h.0;
               few = omega (arith, d.starts, c.few, e);
-              told = c.told;
             };
-            inside = subst (λ (a : ℕ). a + join_size s a ≤ length s) (sym (here_is c)) (omega (arith, g.fits, join-long s (start_of s n) j ps g));
+            inside = subst (λ (a : ℕ). a + join_size s a ≤ length s) (sym here) (omega (arith, g.fits, join-long s (start_of s n) j ps g));
             right-small = omega (arith, d.wide, width_small s b q (c.first + nodes p) h.1.0, c.few, e);
           }
 
@@ -242,25 +233,25 @@ module _ {s st : List ℕ} {n : ℕ} (c : Standing s st n) (b : Bytes s) (table 
             omega (arith, k.wide, width_small s b p c.first h.0, c.few, e)
 
     -- what the inputs' nodes and the join above them describe
-    pub join_describes : (out : Node) → DescribesJoin s (get_or st n 0) l r out → Describes s n out
+    pub join_describes : (out : Node) → DescribesJoin s at l r out → Describes s n out
     unfolding Stands nodes
     join_describes out above (leaf t w) f e h = absurd (no_table (tag-leaf s (start_of s n) t w (held-leaf s f n t w e h)))
     join_describes out above (group cols aggs i) f e h = absurd (no_group (group-number s (start_of s n) cols aggs (held-group s f n cols aggs i e h)))
     join_describes out above (join j ps p q) f e h =
         let d : Described q (f + nodes p) r = right q (f + nodes p) (omega (arith, nodes-some q, e)) h.1.0 in
-        above j ps p q f (holds_to (sym (here_is c)) (held-join s f n j ps p q e h)) (left p f (omega (arith, d.starts, nodes-some p)) h.0) d
+        above j ps p q f (holds_to (sym here) (held-join s f n j ps p q e h)) (left p f (omega (arith, d.starts, nodes-some p)) h.0) d
 
 -- ---- a table, at the n-th node
 
-pub table_describes : {s st : List ℕ} {n : ℕ} → Standing s st n → byte s (get_or st n 0) ≡ 0 → (w : ℕ) → w ≡ byte s (get_or st n 0 + 2)
+pub table_describes : {s : List ℕ} {n at : ℕ} → Standing s n → at ≡ start_of s n → byte s at ≡ 0 → (w : ℕ) → w ≡ byte s (at + 2)
     → (out : Node) → DescribesTable n w out → Describes s n out
 unfolding Stands nodes
-table_describes {s} {st} {n} c z w q out d (leaf t v) f e h =
+table_describes {s} {n} c here z w q out d (leaf t v) f e h =
     let x : byte s (start_of s n + 2) ≡ v = (held-leaf s f n t v e h).same 2 (lit< tt) in
-    let wide : w ≡ v = q ∙ ap (λ (a : ℕ). byte s (a + 2)) (here_is c) ∙ x in
+    let wide : w ≡ v = q ∙ ap (λ (a : ℕ). byte s (a + 2)) here ∙ x in
     let at_f : n ≡ f = omega arith in
     subst (λ (k : ℕ). Described (leaf t v) k out) at_f (subst (λ (k : ℕ). Described (leaf t k) n out) wide (d t))
-table_describes {s} {st} {n} c z w q out d (join j ps l r) f e h =
-    absurd (join_no_table s (start_of s n) j ps (held-join s f n j ps l r e h) (sym (ap (byte s) (here_is c)) ∙ z))
-table_describes {s} {st} {n} c z w q out d (group cols aggs i) f e h =
-    absurd (group_no_table s (start_of s n) cols aggs (held-group s f n cols aggs i e h) (sym (ap (byte s) (here_is c)) ∙ z))
+table_describes {s} {n} c here z w q out d (join j ps l r) f e h =
+    absurd (join_no_table s (start_of s n) j ps (held-join s f n j ps l r e h) (sym (ap (byte s) here) ∙ z))
+table_describes {s} {n} c here z w q out d (group cols aggs i) f e h =
+    absurd (group_no_table s (start_of s n) cols aggs (held-group s f n cols aggs i e h) (sym (ap (byte s) here) ∙ z))

@@ -1,5 +1,5 @@
 -- The shape of a byte string is that of the plan that is read from it.
-use Rattle.std.specs.Prelude.{◌≡◌, Bool, cond, leb}
+use Rattle.std.specs.Prelude.{◌≡◌, Bool, cond, leb, Option as Answer}
 use Rattle.std.proofs.Math.Path.{refl}
 use Rattle.std.proofs.Common.{◌∙◌, List, [], ◌∷◌, ℕ, zero, suc, ◌+◌, ◌-◌, arith, le-ltb, ne_eqb, eqb-true}
 use Rattle.std.proofs.Math.Bool.{true, false}
@@ -25,7 +25,7 @@ leaves_in [] = 0
 leaves_in (p ∷ st) = leaves_in st + leaves p
 
 -- the shape of a plan, if there is one
-unfoldable pub plan_shape : Option Plan → Shape
+unfoldable pub plan_shape : Option Plan → Answer Shape
 plan_shape none = no_shape
 plan_shape (some p) = shaped (nodes p) (leaves p)
 

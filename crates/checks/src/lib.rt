@@ -9,7 +9,9 @@ ghost use Rattle.checks.specs.Verdicts.{lesser, verdict};
 ghost use Rattle.checks.specs.Answering.{RootOf};
 ghost use Rattle.checks.specs.Describing.{Standing, Describes, DescribesJoin, DescribesGroup, DescribesTable};
 
+use node_bytes::Tag;
 use refusals::Refusal;
+use shapes::Nodes;
 
 // What a node's parent needs of it: the refusal of its subtree, its width and kinds, the number of its subtree's first node,
 // and the width of its left input where it is a join, else 0.
@@ -102,21 +104,21 @@ fn group_node(s: &[u8], at: usize, i: Node) -> Node
 }
 
 // The n-th node of a plan, from its inputs: the right or only one stands just before it, the left one before the right's subtree.
-fn describe(s: &[u8], starts: &[usize; 12], n: usize) -> Node
-    requires { Standing s.now starts.now n }
-    ensures { Describes s.now n result }
+fn describe(nodes: &Nodes, n: usize) -> Node
+    requires { Standing nodes.now.bytes.now n }
+    ensures { Describes nodes.now.bytes.now n result }
 {
-    let at = starts[n];
-    let tag = s[at];
-    if tag == 0 {
-        return table_node(n, s[at + 2] as usize);
+    let s = nodes.bytes;
+    let at = nodes.starts[n];
+    match Tag::from(s[at]) {
+        Tag::Table => table_node(n, s[at + 2] as usize),
+        Tag::Grouping => group_node(s, at, describe(nodes, n - 1)),
+        _ => {
+            let right = describe(nodes, n - 1);
+            let left = describe(nodes, right.first - 1);
+            join_node(s, at, left, right)
+        }
     }
-    let right = describe(s, starts, n - 1);
-    if tag == 4 {
-        return group_node(s, at, right);
-    }
-    let left = describe(s, starts, right.first - 1);
-    join_node(s, at, left, right)
 }
 
 // What the plan of a byte string is to a job where it passes: its count of nodes and its root's width.
@@ -130,15 +132,11 @@ pub struct Root {
 pub fn root_of(s: &[u8]) -> Result<Root, Refusal>
     ensures { RootOf s.now result }
 {
-    let shape = shapes::shape_of(s);
-    if !shape.ok {
-        return Err(Refusal::NoPlan);
-    }
+    let shape = shapes::shape_of(s).ok_or(Refusal::NoPlan)?;
     if 12 < shape.nodes || 3 < shape.leaves {
         return Err(Refusal::Limits);
     }
-    let starts = shapes::starts(s);
-    let root = describe(s, &starts, shape.nodes - 1);
+    let root = describe(&Nodes::new(s), shape.nodes - 1);
     match root.refusal {
         Some(refusal) => Err(refusal),
         None => Ok(Root {
