@@ -1,5 +1,5 @@
 -- Cells and rows read out of an area, and what an area holds.
-use Rattle.std.specs.Prelude.{◌≡◌, refl, Bool, true, false, cond, ◌&&◌, ◌||◌, List, [], ◌∷◌, ◌++◌, map, ℕ, zero, suc, ◌+◌, ◌-◌, ◌*◌, ◌<◌, ◌≤◌, eqb, leb, length, get_or, drop, ℤ, pos, negsuc, nat_abs}
+use Rattle.std.specs.Prelude.{◌≡◌, refl, Bool, true, false, cond, ◌&&◌, ◌||◌, List, [], ◌∷◌, ◌++◌, map, ℕ, zero, suc, ◌+◌, ◌-◌, ◌*◌, ◌<◌, ◌≤◌, eqb, leb, length, get_or, drop, ℤ, pos, negsuc, nat_abs, Option, None, Some}
 use Rattle.std.proofs.Common.{sym, ap, subst, ◌∙◌, add-zero, arith, length-append, length-drop, ext_get_or, get_or-append-add, get_or-drop, eqb-true}
 use Rattle.std.proofs.Math.Decide.{dec_lt}
 use Rattle.std.proofs.lemmas.List.{length-map}
@@ -19,6 +19,16 @@ use Rattle.regions.specs.Holding.{Held, HeldRows, held_number, held-mark, held-f
 -- the cell at a place
 unfoldable pub cell_of : List ℤ → List ℕ → ℕ → Cell
 cell_of cells marks at = cell_from (get_or cells at (pos 0)) (get_or marks at 0)
+
+-- a place is inside an area
+pub record CellIn (cells : List ℤ) (marks : List ℕ) (at : ℕ) : Type 0 where
+  pub number_in : at < length cells
+  pub mark_in : at < length marks
+
+-- a cell's number, and none of null
+unfoldable pub number_or_none : Cell → Option ℤ
+number_or_none null = None
+number_or_none (num z) = Some z
 
 pub cells_at : (c : List ℤ) (m : List ℕ) (at n i : ℕ) → i < n → get_or (cells_from c m at n) i null ≡ cell_from (get_or c (at + i) (pos 0)) (get_or m (at + i) 0)
 unfolding cells_from

@@ -1,7 +1,8 @@
 #![tactic(auto)]
 
 // Rows in a lent area of cells and marks: where they stand, how they are copied, and how an area is cleared.
-ghost use Rattle.std.specs.Prelude.{◌≤◌, length};
+ghost use Rattle.std.specs.Prelude.{◌≡◌, ◌≤◌, length};
+ghost use Rattle.regions.specs.Reading.{CellIn, cell_of, number_or_none};
 ghost use Rattle.regions.specs.Copying.{Room, CopiedWithin, RoomIn, CopiedIn};
 ghost use Rattle.regions.specs.Clearing.{Cleared};
 
@@ -11,6 +12,19 @@ pub struct Rows {
     pub at: usize,
     pub count: usize,
     pub width: usize,
+}
+
+// The number of the cell at a place, None for null.
+#[tactic(auto, unfolding(crate::specs::Reading::cell_of, crate::specs::Reading::number_or_none, meaning::specs::Running::cell_from))]
+pub fn cell_at(cells: &[i64], marks: &[u8], at: usize) -> Option<i64>
+    requires { CellIn cells.now marks.now at }
+    ensures { result ≡ number_or_none (cell_of cells.now marks.now at) }
+{
+    if marks[at] == 0 {
+        Some(cells[at])
+    } else {
+        None
+    }
 }
 
 // Copies n cells and their marks to another place of the same area; the places lie apart.
