@@ -73,7 +73,7 @@ const RULES: [[u8; 6]; 9] = [
     [2, 0, 1, 9, 9, 9],
 ];
 
-// The entry of an aggregate's line; 9 where there is no such line or no such entry.
+/// The entry of an aggregate's line; 9 where there is no such line or no such entry.
 #[tactic(auto, unfolding(crate::specs::Lines::entry_of))]
 pub fn entry(name: usize, column: usize) -> u8
     ensures { result ≡ entry_of name column }

@@ -82,6 +82,7 @@ fn pads(tag: Tag, lefts: usize, rights: usize) -> bool
 }
 
 // The bytes of the join at a place, if a right one is there.
+#[tactic(auto, using(crate::proofs::Ways::size_ways), unfolding(node_bytes::specs::Nodes::join_size))]
 fn join_size(s: &[u8], at: usize) -> Option<usize>
     requires inside { at < length s.now }
     requires from_inner { 1 ≤ byte s.now at }
@@ -105,6 +106,7 @@ fn join_size(s: &[u8], at: usize) -> Option<usize>
 }
 
 // The bytes of the grouping at a place, if a right one is there.
+#[tactic(auto, using(crate::proofs::Ways::size_ways), unfolding(node_bytes::specs::Nodes::group_size, node_bytes::specs::Nodes::group_good))]
 fn group_size(s: &[u8], at: usize) -> Option<usize>
     requires { at < length s.now }
     ensures { result ≡ size_of (size_if s.now at (group_size s.now at) (group_good s.now at)) }
@@ -123,6 +125,7 @@ fn group_size(s: &[u8], at: usize) -> Option<usize>
 }
 
 // The bytes of the node at a place, if one is there.
+#[tactic(auto, using(crate::proofs::Ways::kind_ways))]
 fn node_size(s: &[u8], at: usize) -> Option<usize>
     ensures { result ≡ size_of (node_size s.now at) }
 {
@@ -146,8 +149,8 @@ fn takes(tag: Tag) -> usize
     }
 }
 
-// The shape of a byte string of any length, in one pass that counts the trees that no node has taken yet.
-#[tactic(auto, using(crate::specs::Scanning::scanned_ends), unfolding(crate::specs::Shapes::ended))]
+/// The shape of a byte string of any length, in one pass that counts the trees that no node has taken yet.
+#[tactic(auto, using(crate::proofs::Ways::scan_ways), unfolding(crate::specs::Shapes::ended))]
 pub fn shape_of(s: &[u8]) -> Option<Shape>
     ensures { result ≡ shape_of s.now }
 {
@@ -170,6 +173,7 @@ pub fn shape_of(s: &[u8]) -> Option<Shape>
 
 impl<'a> Nodes<'a> {
     /// A byte string of any length, with where each of its first 12 nodes starts.
+    #[tactic(auto, using(crate::proofs::Ways::start_ways))]
     pub fn new(bytes: &'a [u8]) -> Nodes<'a>
         ensures { result.bytes.now ≡ bytes.now }
     {
