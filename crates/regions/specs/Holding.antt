@@ -3,7 +3,7 @@ use Rattle.std.specs.Prelude.{◌≡◌, refl, get_or, ℤ, pos}
 use Rattle.std.proofs.Common.{sym, ap, subst, ◌∙◌, length-append, List, [], ◌∷◌, ◌++◌, map, append_assoc, append-nil, ℕ, zero, suc, ◌+◌, ◌*◌, ◌<◌, ◌≤◌, arith}
 use Rattle.std.proofs.Math.Decide.{dec_lt}
 use Rattle.std.proofs.Math.ListN.{length, get_or-append}
-use Rattle.std.proofs.lemmas.List.{length-map}
+use Rattle.std.proofs.lemmas.List.{length-map, get_or-map}
 use Rattle.std.proofs.Math.Seq.{get_or-append_seam}
 use Rattle.meaning.specs.Cells.{null}
 use Rattle.meaning.specs.Plans.{Row, Table}
@@ -25,9 +25,7 @@ pub record Untouched (cells : List ℤ) (marks : List ℕ) (cells' : List ℤ) (
 
 -- an element of a mapped list, whatever is read past its end
 pub get_d_map : {A B : Type 0} (f : A → B) (d : B) (e : A) (xs : List A) (i : ℕ) → i < length xs → get_or (map f xs) i d ≡ f (get_or xs i e)
-get_d_map f d e [] i l = absurd (omega arith)
-get_d_map f d e (x ∷ xs) zero l = refl
-get_d_map f d e (x ∷ xs) (suc i) l = get_d_map f d e xs i (omega arith)
+get_d_map f d e xs i l = get_or-map f xs i e d l
 
 module _ {cells : List ℤ} {marks : List ℕ} where
   -- one cell
