@@ -130,10 +130,7 @@ module _ {name v c : ℕ} {cells : List ℤ} {marks : List ℕ} {base rows w : �
     pub row-marks : base + k * w + w ≤ length marks
     row-marks = omega (arith, held-marks_fit row_here, row-long)
 
-    -- a cell of it lies inside, and what is read there
-    pub cell-in : (i : ℕ) → i < w → CellIn cells marks (base + k * w + i)
-    cell-in i b = record { in_cells = omega (arith, row-cells); in_marks = omega (arith, row-marks) }
-
+    -- what is read of the row
     read : (i : ℕ) → i < w → cell_of cells marks (base + k * w + i) ≡ cell row i
     unfolding cell_of cell
     read i b = sym (cells_at cells marks (base + k * w) w i b)

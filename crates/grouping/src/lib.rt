@@ -175,12 +175,9 @@ fn run_end(columns: &[u8], cells: &[i64], marks: &[u8], rows: Rows, i: usize) ->
     ensures { RunEnd columns.now (rows_from cells.now marks.now rows.width rows.at rows.count) i result }
 {
     let first = rows.at + i * rows.width;
-    for end in i + 1..rows.count {
-        if !sorting::same_key(columns, cells, marks, rows.at + end * rows.width, first) {
-            return end;
-        }
-    }
-    rows.count
+    (i + 1..rows.count)
+        .find(|end| !sorting::same_key(columns, cells, marks, rows.at + *end * rows.width, first))
+        .unwrap_or(rows.count)
 }
 
 // Writes a row for each run of rows with one key, and answers how many.
@@ -205,7 +202,7 @@ fn write_groups(
         let run = Rows {
             at: input.at + i * input.width,
             count: end - i,
-            width: input.width,
+            ..input
         };
         write_group(s, at, cells, marks, run, out + count * width);
         count += 1;

@@ -1,18 +1,16 @@
 -- What a caller knows of a running aggregate: which values a state has taken, what it then answers, and that its numbers stay small.
-use Rattle.std.specs.Prelude.{◌≡◌, refl, Bool, true, false, List, [], ◌∷◌, ◌++◌, ℕ, ◌≤◌, ◌<◌, ◌^◌, ℤ, Option, Some, None, option_map}
-use Rattle.std.specs.Option.{option_or}
-use Rattle.std.proofs.Common.{sym, ap, ◌∙◌, subst, subst₂, append-nil, arith}
+use Rattle.std.specs.Prelude.{◌≡◌, refl, Bool, true, false, List, [], ◌∷◌, ◌++◌, ◌≤◌, ◌<◌, ◌^◌, ℤ, Option, Some, None}
+use Rattle.std.proofs.Common.{sym, ◌∙◌, subst, subst₂, append-nil, arith}
 use Rattle.meaning.specs.Cells.{Cell}
 use Rattle.meaning.specs.Plans.{Row, Name, Rows, Count, Sum, Least, Greatest, DistinctSum, DistinctCount, WeightedSum, WeightedCount, Aggregate, name_of}
 use Rattle.meaning.specs.Rules.{rule}
 use Rattle.meaning.specs.Aggregating.{taken, made_of, answer}
 use Rattle.rules.specs.Lines.{entry_of, line_of, name_at, names, is_null}
-use Rattle.rules.specs.Named.{named}
 use Rattle.numbers.specs.Integers.{false_true}
 use Rattle.running.specs.declared.Running.{Running}
 use Rattle.running.specs.declared.Taken.{Taken}
-use Rattle.running.specs.States.{distinct_of, repeats_of, amount_of, combine_if, start_of, value_of, take_of, add_to, size_if, Room, merge_of, RoomForBoth, empty_of, finish_of}
-use Rattle.running.specs.Names.{called, named_called, is_distinct}
+use Rattle.running.specs.States.{repeats_of, amount_of, start_of, value_of, take_of, add_to, size_if, Room, merge_of, RoomForBoth, empty_of, finish_of}
+use Rattle.running.specs.Names.{called, is_distinct}
 use Rattle.running.specs.Steps.{last_in, repeats_distinct, repeats_yes, repeats_no, add_not-taken, add_repeated, add_taken, merge_none, merge_some}
 use Rattle.running.specs.Ascent.{upwards, last_if, last_more}
 use Rattle.running.specs.Values.{Rises, made_if, answer-both, answer_new, answer-same}

@@ -1,8 +1,8 @@
 -- The names of plans as the code has them.
-use Rattle.std.specs.Prelude.{◌≡◌, refl, Bool, ℕ}
+use Rattle.std.specs.Prelude.{◌≡◌, refl, Bool}
 use Rattle.meaning.specs.Plans.{Name, Rows, Count, Sum, Least, Greatest, DistinctSum, DistinctCount, WeightedSum, WeightedCount}
 use Rattle.meaning.specs.Arrangement.{name_number}
-use Rattle.rules.specs.Named.{named, number_in}
+use Rattle.rules.specs.Named.{named}
 use Rattle.rules.specs.declared.Name as code
 use Rattle.rules.specs.declared.Name.TheVariants as code_name
 use Rattle.running.specs.States.{distinct_of}

@@ -1,5 +1,5 @@
 -- What an aggregate takes of a row, by its cells v and c, and of rows after others.
-use Rattle.std.specs.Prelude.{◌≡◌, refl, true, false, List, [], ◌∷◌, ◌++◌, ℕ, ◌≤◌, get_or, ℤ, pos, ◌*ℤ◌, Option, Some, None}
+use Rattle.std.specs.Prelude.{◌≡◌, refl, true, List, [], ◌∷◌, ◌++◌, ◌≤◌, get_or, ℤ, pos, ◌*ℤ◌, Option, Some, None}
 use Rattle.std.proofs.Common.{sym, ap, ◌∙◌, append_assoc, arith}
 use Rattle.std.proofs.Math.IntN.{+ℤ_idr}
 use Rattle.meaning.specs.Cells.{Cell, null, num}

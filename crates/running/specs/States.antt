@@ -1,5 +1,5 @@
 -- What a running aggregate holds after each step, for every state. A name that no aggregate has sums v where v and c are present.
-use Rattle.std.specs.Prelude.{Bool, true, false, not, cond, ◌&&◌, ℕ, ◌+◌, ◌<◌, ◌^◌, eqb, ℤ, pos, nat_abs, ◌+ℤ◌, ◌*ℤ◌, Option, Some, None, option_map}
+use Rattle.std.specs.Prelude.{Bool, true, false, cond, ◌&&◌, ℕ, ◌+◌, ◌<◌, ◌^◌, eqb, ℤ, pos, nat_abs, ◌+ℤ◌, ◌*ℤ◌, Option, Some, None, option_map}
 use Rattle.std.specs.Option.{option_and, option_eq, option_or}
 use Rattle.std.specs.Int.Signed.{lt_z}
 use Rattle.std.specs.Ordering.{int_eq}

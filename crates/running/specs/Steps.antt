@@ -1,6 +1,6 @@
 -- One law for each way out of a method: the state that the code makes there is the definition's.
-use Rattle.std.specs.Prelude.{◌≡◌, refl, Bool, true, false, ◌&&◌, ℕ, ◌+◌, ◌<◌, ◌^◌, ℤ, nat_abs, Option, Some, None, option_map}
-use Rattle.std.specs.Option.{option_eq, option_or}
+use Rattle.std.specs.Prelude.{◌≡◌, true, false, ◌+◌, ◌<◌, ◌^◌, ℤ, nat_abs, Option, Some, None}
+use Rattle.std.specs.Option.{option_eq}
 use Rattle.std.specs.Ordering.{int_eq}
 use Rattle.std.specs.Cmp.{signed_Decides}
 use Rattle.std.proofs.Common.{sym, ap, ◌∙◌}

@@ -3,10 +3,9 @@ use Rattle.std.specs.Prelude.{◌≡◌, refl, Bool, true, false, cond, List, []
 use Rattle.std.proofs.Common.{sym, ap, ◌∙◌, length-append}
 use Rattle.std.proofs.Math.IntN.{+ℤ_idl, +ℤ_assoc}
 use Rattle.std.specs.Int.Signed.{lt_z}
-use Rattle.meaning.specs.Cells.{num}
 use Rattle.meaning.specs.Plans.{Name, Rows, Count, Sum, Least, Greatest, DistinctSum, DistinctCount, WeightedSum, WeightedCount}
 use Rattle.meaning.specs.Rules.{rule}
-use Rattle.meaning.specs.Aggregating.{total, smallest, largest, into, ascending, made_of, answer}
+use Rattle.meaning.specs.Aggregating.{total, smallest, largest, into, ascending, made_of}
 use Rattle.numbers.specs.Integers.{lt_trans, nlt_trans, nlt_antisym}
 use Rattle.meaning.specs.Running.{cell_number}
 use Rattle.running.specs.States.{distinct_of, combine_of, combine_if}

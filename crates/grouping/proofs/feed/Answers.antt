@@ -1,6 +1,6 @@
 -- `grouping::feed` feeds row by row: after k turns the state has taken the first k rows.
 use Rattle.std.proofs.Common.{arith}
-use Rattle.grouping.specs.Feeding.{fed_none, fed_room, fed_more, row-cells, cell-in}
+use Rattle.grouping.specs.Feeding.{fed_none, fed_room, fed_more, row-cells, row-marks}
 use Rattle.grouping.proofs.feed.Goals as goal
 
 pub loop-k-init : goal.loop-k-init
@@ -13,16 +13,22 @@ pub overflow_add-row : goal.overflow_add-row
 overflow_add-row c = omega (arith, row-cells c.requires c.loop-k.k (omega arith))
 
 pub overflow_add-row-in-loop-k : goal.overflow_add-row-in-loop-k
-overflow_add-row-in-loop-k c = omega (arith, row-cells c.requires c.loop-k.k (omega arith), c.requires.v_in)
+overflow_add-row-in-loop-k c = omega (arith, row-cells c.requires c.loop-k.k (omega arith))
 
 pub cell_at-requires : goal.cell_at-requires
-cell_at-requires c = cell-in c.requires c.loop-k.k (omega arith) c.args.v c.requires.v_in
+cell_at-requires c = record {
+  in_cells = omega (arith, row-cells c.requires c.loop-k.k (omega arith));
+  in_marks = omega (arith, row-marks c.requires c.loop-k.k (omega arith));
+}
 
 pub overflow_add-row-in-loop-k-2 : goal.overflow_add-row-in-loop-k-2
-overflow_add-row-in-loop-k-2 c = omega (arith, row-cells c.requires c.loop-k.k (omega arith), c.requires.c_in)
+overflow_add-row-in-loop-k-2 c = omega (arith, row-cells c.requires c.loop-k.k (omega arith))
 
 pub cell_at-requires-in-loop-k : goal.cell_at-requires-in-loop-k
-cell_at-requires-in-loop-k c = cell-in c.requires c.loop-k.k (omega arith) c.args.c c.requires.c_in
+cell_at-requires-in-loop-k c = record {
+  in_cells = omega (arith, row-cells c.requires c.loop-k.k (omega arith));
+  in_marks = omega (arith, row-marks c.requires c.loop-k.k (omega arith));
+}
 
 pub add-state-requires : goal.add-state-requires
 add-state-requires c = fed_room c.requires c.loop-k.k (omega arith) c.loop-k.invariant c.cell_at.ensures c.cell_at-in-loop-k.ensures
