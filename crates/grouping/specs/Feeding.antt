@@ -1,17 +1,18 @@
 -- A running aggregate that is fed with the rows of an area, in order.
-use Rattle.std.specs.Prelude.{◌≡◌, ℕ, zero, suc, ◌+◌, ◌-◌, ◌*◌, ◌<◌, ◌≤◌, ◌^◌, length, get_or, ℤ, Option}
+use Rattle.std.specs.Prelude.{◌≡◌, ℕ, zero, suc, ◌+◌, ◌-◌, ◌*◌, ◌<◌, ◌≤◌, ◌^◌, length, get_or, ℤ, pos, Option}
 use Rattle.std.proofs.Math.Path.{refl, sym, ap}
 use Rattle.std.proofs.Common.{subst, ◌∙◌, arith, List, [], ◌∷◌, ◌++◌, append_assoc, append-nil}
+use Rattle.meaning.specs.Cells.{Cell, null, num}
 use Rattle.meaning.specs.Plans.{Row, Table, Name, Aggregate, name_of, columns_read}
 use Rattle.meaning.specs.Joining.{cell}
 use Rattle.meaning.specs.Aggregating.{values_of}
-use Rattle.meaning.specs.Running.{cells_from, rows_from}
+use Rattle.meaning.specs.Running.{cell_from, cells_from, rows_from}
 use Rattle.meaning.proofs.Widths.{cells-long, rows_long}
 use Rattle.arrangement.proofs.Items.{number-name}
 use Rattle.rules.specs.Lines.{name_at}
 use Rattle.rules.specs.Named.{named}
 use Rattle.regions.specs.Holding.{Held, HeldRows, held-cells_fit, held-marks_fit, row-held}
-use Rattle.regions.specs.Reading.{cell_of, cells_at, row_at}
+use Rattle.regions.specs.Reading.{number_or_none, cell_of, cells_at, row_at}
 use Rattle.running.specs.declared.Running.{Running}
 use Rattle.running.specs.States.{add_to, start_of, Room}
 use Rattle.running.specs.Names.{called, named_called}
@@ -61,14 +62,15 @@ rows-one : (cs : List ℤ) (ms : List ℕ) (w at : ℕ) → rows_from cs ms w at
 unfolding rows_from
 rows-one cs ms w at = refl
 
+-- a cell as the area's code reads it is that of a running aggregate
+same_value : (x : Cell) → number_or_none x ≡ cell_value x
+unfolding number_or_none cell_value
+same_value null = refl
+same_value (num z) = refl
+
 -- what the code calls a known name
 pub known-called : (name : ℕ) → name < 9 → named name ≡ called (name_at name)
 known-called name known = ap named (sym (number-name name known)) ∙ named_called (name_at name)
-
--- a place inside an area
-pub record CellIn (cells : List ℤ) (marks : List ℕ) (place : ℕ) : Type 0 where
-  pub in_cells : place < length cells
-  pub in_marks : place < length marks
 
 -- the aggregate of a number, with columns v and c, may be fed with rows w wide: its sums stay small, a distinct one's values ascend
 pub record FeedRoom (name v c : ℕ) (cells : List ℤ) (marks : List ℕ) (base rows w : ℕ) : Type 0 where
@@ -131,13 +133,13 @@ module _ {name v c : ℕ} {cells : List ℤ} {marks : List ℕ} {base rows w : �
     row-marks = omega (arith, held-marks_fit row_here, row-long)
 
     -- what is read of the row
-    read : (i : ℕ) → i < w → cell_of cells marks (base + k * w + i) ≡ cell row i
+    read : (i : ℕ) → i < w → number_or_none (cell_of cells marks (base + k * w + i)) ≡ cell_value (cell row i)
     unfolding cell_of cell
-    read i b = sym (cells_at cells marks (base + k * w) w i b)
+    read i b = same_value (cell_from (get_or cells (base + k * w + i) (pos 0)) (get_or marks (base + k * w + i) 0)) ∙ ap cell_value (sym (cells_at cells marks (base + k * w) w i b))
 
     -- one row more
     module _ {st : Running} (t : Fed name v c cells marks base k w st) {x y : Option ℤ}
-        (ex : x ≡ cell_value (cell_of cells marks (base + k * w + v))) (ey : y ≡ cell_value (cell_of cells marks (base + k * w + c))) where
+        (ex : x ≡ number_or_none (cell_of cells marks (base + k * w + v))) (ey : y ≡ number_or_none (cell_of cells marks (base + k * w + c))) where
       pub fed_room : Room st x y
       fed_room =
           rw (ex, ey, read v room.v_in, read c room.c_in)

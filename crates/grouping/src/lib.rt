@@ -5,30 +5,16 @@ ghost use Rattle.std.specs.Prelude.{◌≡◌, ℕ, ◌+◌, ◌<◌, ◌≤◌,
 ghost use Rattle.meaning.specs.Running.{rows_from};
 ghost use Rattle.node_bytes.specs.Nodes.{byte};
 ghost use Rattle.arrangement.proofs.Roots.{columns_from};
-ghost use Rattle.regions.specs.Reading.{cell_of};
-ghost use Rattle.running.specs.Rows.{cell_value};
 ghost use Rattle.groups.proofs.Runs.{RunEnd};
 ghost use Rattle.grouping.specs.Picking.{PickRoom, PickDone};
-ghost use Rattle.grouping.specs.Feeding.{CellIn, FeedRoom, Fed};
+ghost use Rattle.grouping.specs.Feeding.{FeedRoom, Fed};
 ghost use Rattle.grouping.specs.Single.{needs_order, StateRoom, StateDone};
 ghost use Rattle.grouping.specs.Writing.{CellRoom, CellDone, CellsRoom, CellsDone, RowRoom, RowDone};
 ghost use Rattle.grouping.specs.Ending.{EndRoom};
 ghost use Rattle.grouping.specs.Grouping.{GroupRoom, RunsDone, GroupDone};
 
-use regions::Rows;
+use regions::{Rows, cell_at};
 use running::Running;
-
-// The cell at a place, None for null.
-#[tactic(auto, unfolding(regions::specs::Reading::cell_of, meaning::specs::Running::cell_from, running::specs::Rows::cell_value))]
-fn cell_at(cells: &[i64], marks: &[u8], place: usize) -> Option<i64>
-    requires { CellIn cells.now marks.now place }
-    ensures { result ≡ cell_value (cell_of cells.now marks.now place) }
-{
-    match marks[place] {
-        0 => Some(cells[place]),
-        _ => None,
-    }
-}
 
 // Writes n cells behind one another, each from its place below them.
 fn pick<F: Fn(usize) -> usize>(cells: &mut [i64], marks: &mut [u8], to: usize, n: usize, place: F)

@@ -17,8 +17,8 @@ overflow_add-row-in-loop-k c = omega (arith, row-cells c.requires c.loop-k.k (om
 
 pub cell_at-requires : goal.cell_at-requires
 cell_at-requires c = record {
-  in_cells = omega (arith, row-cells c.requires c.loop-k.k (omega arith));
-  in_marks = omega (arith, row-marks c.requires c.loop-k.k (omega arith));
+  number_in = omega (arith, row-cells c.requires c.loop-k.k (omega arith));
+  mark_in = omega (arith, row-marks c.requires c.loop-k.k (omega arith));
 }
 
 pub overflow_add-row-in-loop-k-2 : goal.overflow_add-row-in-loop-k-2
@@ -26,8 +26,8 @@ overflow_add-row-in-loop-k-2 c = omega (arith, row-cells c.requires c.loop-k.k (
 
 pub cell_at-requires-in-loop-k : goal.cell_at-requires-in-loop-k
 cell_at-requires-in-loop-k c = record {
-  in_cells = omega (arith, row-cells c.requires c.loop-k.k (omega arith));
-  in_marks = omega (arith, row-marks c.requires c.loop-k.k (omega arith));
+  number_in = omega (arith, row-cells c.requires c.loop-k.k (omega arith));
+  mark_in = omega (arith, row-marks c.requires c.loop-k.k (omega arith));
 }
 
 pub add-state-requires : goal.add-state-requires
