@@ -20,7 +20,7 @@ use Rattle.regions.specs.Reading.{row_at}
 use Rattle.running.specs.Rows.{values_append}
 use Rattle.running.specs.Sizes.{most_of, most-append}
 use Rattle.sorting.specs.Sorting.{Listed, SortRoom, SortDone}
-use Rattle.sorting.specs.Columns.{columns-long, columns_listed}
+use Rattle.sorting.specs.Columns.{columns-long, columns_at, columns_listed}
 use Rattle.regions.specs.Rows.{untouched_then, untouched_wider, rows-front, rows_back, rows_apart, rows_to, rows_stay, rows_same}
 use Rattle.groups.proofs.Runs.{RunEnd, runs_of, rest, rest-none, rest-step, written-few}
 use Rattle.groups.proofs.Grouped.{runs_of-group_rows}
@@ -172,9 +172,7 @@ module _ {s : List ℕ} {at : ℕ} {cells : List ℤ} {marks : List ℕ} {input 
   node-inside = omega (arith, r.node)
 
   narrow : (i : ℕ) → i < byte s (at + 1) → byte s (at + 3 + i) < w
-  narrow i l =
-      let q : at + 3 + 1 * i ≡ at + 3 + i = omega arith in
-      subst (λ (k : ℕ). k < w) (get_d_list (byte s) 1 (at + 3) (byte s (at + 1)) i 0 l ∙ ap (byte s) q) (there_at w cols r.some-columns r.key-columns i)
+  narrow i l = subst (λ (k : ℕ). k < w) (columns_at s (at + 3) (byte s (at + 1)) i l) (there_at w cols r.some-columns r.key-columns i)
 
   pub listed : Listed cols w
   listed = columns_listed s (at + 3) (byte s (at + 1)) w narrow

@@ -3,7 +3,7 @@ use Rattle.std.specs.Prelude.{◌≡◌, Bool, true, false, not, List, [], ◌�
 use Rattle.std.specs.Option.{is_some, unwrap_or}
 use Rattle.std.proofs.Math.Path.{refl}
 use Rattle.std.proofs.Common.{sym, ap, ◌∙◌, mul-le-mul_right, arith, get_or-set_same}
-use Rattle.std.proofs.lemmas.List.{length-map}
+use Rattle.std.proofs.lemmas.List.{length-map, map-append}
 use Rattle.meaning.specs.Cells.{Cell, null, num}
 use Rattle.meaning.specs.Plans.{Row, Table, Aggregate}
 use Rattle.meaning.specs.Aggregating.{aggregate}
@@ -100,14 +100,10 @@ pub record CellsDone (s : List ℕ) (at count : ℕ) (cells : List ℤ) (marks :
 answers-long : (s : List ℕ) (at count : ℕ) (t : Table) → length (answers_of s at count t) ≡ count
 answers-long s at count t = length-map (list_at (aggregate_at s) 3 at count) (λ (a : Aggregate). aggregate a t) ∙ length_list (aggregate_at s) 3 at count
 
-map_more : {A B : Type 0} (f : A → B) (xs : List A) (y : A) → map f (xs ++ y ∷ []) ≡ map f xs ++ f y ∷ []
-map_more f [] y = refl
-map_more f (x ∷ xs) y = ap (λ (l : List _). f x ∷ l) (map_more f xs y)
-
 answers-more : (s : List ℕ) (at count : ℕ) (t : Table) → answers_of s at (count + 1) t ≡ answers_of s at count t ++ aggregate (aggregate_at s (at + 3 * count)) t ∷ []
 answers-more s at count t =
     ap (map (λ (a : Aggregate). aggregate a t)) (list_more (aggregate_at s) 3 at count)
-    ∙ map_more (λ (a : Aggregate). aggregate a t) (list_at (aggregate_at s) 3 at count) (aggregate_at s (at + 3 * count))
+    ∙ map-append (λ (a : Aggregate). aggregate a t) (list_at (aggregate_at s) 3 at count) (aggregate_at s (at + 3 * count) ∷ [])
 
 -- no cell, and one cell
 pub held_none : {cells : List ℤ} {marks : List ℕ} {at : ℕ} → at ≤ length cells → at ≤ length marks → Held cells marks at []
