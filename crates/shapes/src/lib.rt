@@ -46,7 +46,7 @@ fn cells_good(s: &[u8], from: usize, n: usize) -> bool
 }
 
 // Whether the three bytes from a place on are an aggregate's.
-#[tactic(auto, using(rules::specs::Named::says_other, rules::specs::Named::not_other), unfolding(node_bytes::specs::Nodes::aggregate_good))]
+#[tactic(auto, using(crate::proofs::Ways::aggregate_ways), unfolding(node_bytes::specs::Nodes::aggregate_good))]
 fn aggregate_good(s: &[u8], at: usize) -> bool
     requires { at + 3 ≤ length s.now }
     ensures { result ≡ aggregate_good s.now at }
@@ -89,18 +89,18 @@ fn join_size(s: &[u8], at: usize) -> Option<usize>
     requires to_full { byte s.now at ≤ 3 }
     ensures { result ≡ size_of (size_if s.now at (join_size s.now at) (join_good s.now at)) }
 {
-    let room = s.len() - at;
-    if room < 4 {
+    let node = &s[at..];
+    let &[tag, pairs, lefts, rights, ..] = node else {
         return None;
-    }
-    let pairs = s[at + 1] as usize;
-    let lefts = s[at + 2] as usize;
-    let rights = s[at + 3] as usize;
+    };
+    let pairs = pairs as usize;
+    let lefts = lefts as usize;
+    let rights = rights as usize;
     let size = 4 + 2 * pairs + 9 * (lefts + rights);
-    if room < size {
+    if node.len() < size {
         return None;
     }
-    let good = pads(Tag::from(s[at]), lefts, rights)
+    let good = pads(Tag::from(tag), lefts, rights)
         && cells_good(s, at + 4 + 2 * pairs, lefts + rights);
     good.then_some(size)
 }
@@ -111,14 +111,14 @@ fn group_size(s: &[u8], at: usize) -> Option<usize>
     requires { at < length s.now }
     ensures { result ≡ size_of (size_if s.now at (group_size s.now at) (group_good s.now at)) }
 {
-    let room = s.len() - at;
-    if room < 3 {
+    let node = &s[at..];
+    let &[_, columns, aggregates, ..] = node else {
         return None;
-    }
-    let columns = s[at + 1] as usize;
-    let aggregates = s[at + 2] as usize;
+    };
+    let columns = columns as usize;
+    let aggregates = aggregates as usize;
     let size = 3 + columns + 3 * aggregates;
-    if room < size {
+    if node.len() < size {
         return None;
     }
     aggregates_good(s, at + 3 + columns, aggregates).then_some(size)
