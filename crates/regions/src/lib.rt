@@ -36,7 +36,7 @@ pub fn copy_within(cells: &mut [i64], marks: &mut [u8], from: usize, to: usize, 
     marks.copy_within(from..from + n, to);
 }
 
-// Copies n cells and their marks from one area into another.
+// Copies n cells and their marks from one area into another; a place and a number serve both, where a caller would cut two slices.
 pub fn copy_into(
     source: &[i64],
     source_marks: &[u8],
