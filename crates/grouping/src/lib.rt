@@ -182,7 +182,7 @@ fn write_groups(
     let width = columns.len() + s[at + 2] as usize;
     let mut count = 0;
     let mut i = 0;
-    // from run to run, not from row to row
+    // A `for` would go from row to row, where this goes from run to run.
     while i < input.count {
         let end = run_end(columns, cells, marks, input, i);
         let run = Rows {
