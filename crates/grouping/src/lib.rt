@@ -115,6 +115,7 @@ fn write_aggregate(
 }
 
 // Writes what each of n aggregates answers over a run's rows.
+// They go by the string and a place, as the laws of a node's bytes do; a slice of them would be the same laws at other places.
 fn write_aggregates(
     s: &[u8],
     at: usize,
