@@ -1,6 +1,6 @@
 -- Refusal 3 at one node, read off its bytes: the columns that its pairs, grouping columns and aggregates name.
-use Rattle.std.specs.Prelude.{Bool, true, not, ◌&&◌, ◌||◌, List, ℕ, zero, suc, ◌+◌, eqb, ltb, get_or, drop}
-use Rattle.std.specs.List.{list_any}
+use Rattle.std.specs.Prelude.{Bool, true, not, ◌&&◌, ◌||◌, List, ℕ, zero, suc, ◌+◌, eqb, ltb, length, get_or, drop}
+use Rattle.std.specs.List.{list_all, list_any, range_with_len}
 use Rattle.rules.specs.Lines.{entry_of}
 use Rattle.node_bytes.specs.Nodes.{byte}
 use Rattle.node_bytes.specs.Rows.{every}
@@ -29,6 +29,9 @@ absent_at s at n i = every (other_at s i) 1 at n
 -- the i-th of some columns is none of those behind it
 abbrev pub alone : List ℕ → ℕ → Bool
 alone columns i = not (list_any (λ (y : ℕ). eqb y (get_or columns i 0)) (drop (i + 1) columns))
+
+abbrev pub all_alone : List ℕ → Bool
+all_alone columns = list_all (alone columns) (range_with_len 0 (length columns))
 
 -- n columns from a place on are all different
 unfoldable pub distinct_at : List ℕ → ℕ → ℕ → Bool

@@ -1,14 +1,15 @@
 -- The tests that go over n things, as `all` makes them: bytes of a part, columns that are all different, defaults with their kinds;
 -- and one turn of a loop that writes a list from the front.
-use Rattle.std.specs.Prelude.{◌≡◌, refl, Bool, true, false, not, ◌&&◌, ◌||◌, List, [], ◌∷◌, ◌++◌, ℕ, zero, suc, ◌+◌, ◌*◌, ◌-◌, ◌<◌, ◌≤◌, eqb, length, get_or, take, drop, set, slice_range}
+use Rattle.std.specs.Prelude.{◌≡◌, refl, Bool, true, false, not, ◌&&◌, ◌||◌, List, [], ◌∷◌, ◌++◌, ℕ, zero, suc, ◌+◌, ◌*◌, ◌-◌, ◌<◌, ◌≤◌, eqb, ltb, length, get_or, take, drop, set, slice_range}
 use Rattle.std.specs.List.{list_all, list_any, range_with_len}
-use Rattle.std.proofs.Common.{sym, ap, ◌∙◌, append-nil, append_assoc, add-one, arith, drop-cons, get_or-take, get_or-drop, length-set, take-suc-set}
+use Rattle.std.proofs.Common.{sym, ap, ◌∙◌, append-nil, append_assoc, add-one, arith, length-take, length-drop, drop-cons, get_or-take, get_or-drop, length-set, take-suc-set}
 use Rattle.std.proofs.lemmas.List.{drop-take, drop-drop}
-use Rattle.node_bytes.specs.Nodes.{byte}
+use Rattle.node_bytes.specs.Nodes.{byte, group_size}
 use Rattle.node_bytes.specs.Rows.{every, list_at, list_more}
 use Rattle.node_checks.specs.Tests.{eqb_same}
-use Rattle.node_checks.specs.Columns.{other_at, absent_at, alone, distinct_at}
+use Rattle.node_checks.specs.Columns.{column_at, columns_at, other_at, absent_at, alone, all_alone, distinct_at, reads_at}
 use Rattle.node_checks.specs.Weights.{default_at, defaults_at}
+use Rattle.node_checks.specs.Numbers.{group_columns_at}
 
 -- a test of each byte of a part of a string is the test at each place
 every_in : (f : ℕ → Bool) (s : List ℕ) (at n : ℕ) → at + n ≤ length s
@@ -52,11 +53,21 @@ module _ (s : List ℕ) (at n : ℕ) (h : at + n ≤ length s) where
       (ap (λ (b : Bool). absent_at s (at + a + 1) m (byte s (at + a)) && b)
       (distinct_from (a + 1) m (omega arith) ∙ ap (λ (x : ℕ). distinct_at s x m) q))
 
-  pub distinct_of-range : list_all (alone (slice_range s at (at + n))) (range_with_len 0 n) ≡ distinct_at s at n
-  distinct_of-range =
+  pub distinct_of-part : all_alone (slice_range s at (at + n)) ≡ distinct_at s at n
+  distinct_of-part =
       let e : at + n - at ≡ n = omega arith in
+      let l : length (take n (drop at s)) ≡ n = simp (length-take, length-drop) (omega arith) in
       let q : at + 0 ≡ at = omega arith in
-      rw e (distinct_from 0 n (omega arith) ∙ ap (λ (x : ℕ). distinct_at s x n) q)
+      rw (e, l) (distinct_from 0 n (omega arith) ∙ ap (λ (x : ℕ). distinct_at s x n) q)
+
+-- 3 at a grouping that ends inside the string, whose columns are a part of it
+pub group_columns_parted : (s : List ℕ) (at w : ℕ) → at + group_size s at ≤ length s
+    → group_columns_at s at w
+    ≡ (list_all (λ (column : ℕ). ltb column w) (slice_range s (at + 3) (at + 3 + byte s (at + 1)))
+    && (all_alone (slice_range s (at + 3) (at + 3 + byte s (at + 1))) && reads_at s (at + 3 + byte s (at + 1)) (byte s (at + 2)) w))
+unfolding group_size group_columns_at columns_at column_at
+group_columns_parted s at w h =
+    rw (every_of-part (λ (column : ℕ). ltb column w) s (at + 3) (byte s (at + 1)) (omega arith), distinct_of-part s (at + 3) (byte s (at + 1)) (omega arith))
 
 -- n defaults are right where each is for the kind of its number
 defaults_from : (s ks : List ℕ) (at a n : ℕ)

@@ -1,13 +1,14 @@
 #![tactic(auto)]
 
 // Refusals 2, 3 and 4 at one node of a byte string, and the kinds of its columns. Kinds are 0 for plain and 1 for weight, 16 at the most.
-ghost use Rattle.std.specs.Prelude.{◌≡◌, ◌++◌, ◌+◌, ◌*◌, ◌<◌, ◌≤◌, length, get_or, take};
+ghost use Rattle.std.specs.Prelude.{◌≡◌, ◌++◌, ◌+◌, ◌*◌, ◌<◌, ◌≤◌, ltb, length, get_or, take};
+ghost use Rattle.std.specs.List.{list_all};
 ghost use Rattle.meaning.specs.Limits.{up_to};
 ghost use Rattle.meaning.specs.Check.{apart};
 ghost use Rattle.node_bytes.specs.Nodes.{join_size, group_size};
 ghost use Rattle.node_bytes.specs.Tags.{byte_in};
 ghost use Rattle.node_checks.specs.Numbers.{join_within_at, counts_right, join_columns_at, join_weights_at, group_within_at, group_columns_at, group_weights_at, JoinKinds, GroupKinds};
-ghost use Rattle.node_checks.specs.Columns.{pairs_at, columns_at, alone, distinct_at, read_at, reads_at};
+ghost use Rattle.node_checks.specs.Columns.{pairs_at, alone, all_alone, read_at, reads_at};
 ghost use Rattle.node_checks.specs.Weights.{default_at, defaults_at, weight_at, weights_at, column_kinds_at, aggregate_kind_at, aggregate_kinds_at};
 
 use node_bytes::Tag;
@@ -20,14 +21,11 @@ fn pairs_there(s: &[u8], from: usize, n: usize, l: usize, r: usize) -> bool
     (0..n).all(|i| (s[from + 2 * i] as usize) < l && (s[from + 2 * i + 1] as usize) < r)
 }
 
-// Whether n columns from a place on are below w.
-fn columns_there(s: &[u8], from: usize, n: usize, w: usize) -> bool
-    requires { from + n ≤ length s.now }
-    ensures { result ≡ columns_at s.now from n w }
+// Whether columns are all below w.
+fn columns_there(columns: &[u8], w: usize) -> bool
+    ensures { result ≡ list_all (λ column. ltb column w) columns.now }
 {
-    s[from..from + n]
-        .iter()
-        .all(|column| (*column as usize) < w)
+    columns.iter().all(|column| (*column as usize) < w)
 }
 
 // Whether the i-th of some columns is none of those behind it.
@@ -38,13 +36,11 @@ fn alone(columns: &[u8], i: usize) -> bool
     !columns[i + 1..].contains(&columns[i])
 }
 
-// Whether n columns from a place on are all different.
-fn all_different(s: &[u8], from: usize, n: usize) -> bool
-    requires { from + n ≤ length s.now }
-    ensures { result ≡ distinct_at s.now from n }
+// Whether columns are all different.
+fn all_different(columns: &[u8]) -> bool
+    ensures { result ≡ all_alone columns.now }
 {
-    let columns = &s[from..from + n];
-    (0..n).all(|i| alone(columns, i))
+    (0..columns.len()).all(|i| alone(columns, i))
 }
 
 // Whether the columns that one aggregate reads are below w.
@@ -256,16 +252,16 @@ pub fn group_within(s: &[u8], at: usize) -> bool
 }
 
 // 3 at a grouping over w columns.
-#[tactic(auto, unfolding(node_bytes::specs::Nodes::group_size, crate::specs::Numbers::group_columns_at))]
+#[tactic(auto, using(crate::specs::Steps::group_columns_parted), unfolding(node_bytes::specs::Nodes::group_size))]
 pub fn group_columns(s: &[u8], at: usize, w: usize) -> bool
     requires { at + group_size s.now at ≤ length s.now }
     ensures { result ≡ group_columns_at s.now at w }
 {
-    let columns = s[at + 1] as usize;
-    let aggregates = s[at + 2] as usize;
-    columns_there(s, at + 3, columns, w)
-        && all_different(s, at + 3, columns)
-        && reads_there(s, at + 3 + columns, aggregates, w)
+    let behind = at + 3 + s[at + 1] as usize;
+    let columns = &s[at + 3..behind];
+    columns_there(columns, w)
+        && all_different(columns)
+        && reads_there(s, behind, s[at + 2] as usize, w)
 }
 
 // 4 at a grouping over columns of these kinds; l is the left width of the join below, else 0.
