@@ -14,14 +14,14 @@ use refusals::Refusal;
 use shapes::Nodes;
 
 // What a node's parent needs of it: the refusal of its subtree, its width and kinds, the number of its subtree's first node,
-// and the width of its left input where it is a join, else 0.
+// and the width of its left input where it is a join, else 0: no Option, since `group_weights` takes the 0.
 #[derive(Drop)]
-pub struct Node {
-    pub refusal: Option<Refusal>,
-    pub width: usize,
-    pub first: usize,
-    pub split: usize,
-    pub kinds: [u8; 16],
+struct Node {
+    refusal: Option<Refusal>,
+    width: usize,
+    first: usize,
+    split: usize,
+    kinds: [u8; 16],
 }
 
 // Of two refusals the one that comes first.
@@ -70,36 +70,34 @@ fn join_node(s: &[u8], at: usize, l: Node, r: Node) -> Node
     requires { (at + join_size s.now at ≤ length s.now) × ((l.width < 65536) × (r.width < 65536)) }
     ensures { DescribesJoin s.now at l r result }
 {
-    let left = l.kinds;
-    let right = r.kinds;
     let sofar = lesser_of(l.refusal, r.refusal);
     let within = node_checks::join_within(s, at, l.width, r.width);
     let columns = node_checks::join_columns(s, at, l.width, r.width);
-    let weights = node_checks::join_weights(s, at, &left, &right);
+    let weights = node_checks::join_weights(s, at, &l.kinds, &r.kinds);
     Node {
         refusal: verdict_of(sofar, within, columns, weights),
         width: l.width + r.width,
         first: l.first,
         split: l.width,
-        kinds: node_checks::join_kinds(left, l.width, &right, r.width),
+        kinds: node_checks::join_kinds(l.kinds, l.width, &r.kinds, r.width),
     }
 }
 
 // A grouping above its input.
+#[tactic(auto, unfolding(node_bytes::specs::Nodes::group_size))]
 fn group_node(s: &[u8], at: usize, i: Node) -> Node
     requires { at + group_size s.now at ≤ length s.now }
     ensures { DescribesGroup s.now at i result }
 {
-    let below = i.kinds;
     let within = node_checks::group_within(s, at);
     let columns = node_checks::group_columns(s, at, i.width);
-    let weights = node_checks::group_weights(s, at, i.split, &below);
+    let weights = node_checks::group_weights(s, at, i.split, &i.kinds);
     Node {
         refusal: verdict_of(i.refusal, within, columns, weights),
         width: s[at + 1] as usize + s[at + 2] as usize,
         first: i.first,
         split: 0,
-        kinds: node_checks::group_kinds(s, at, &below),
+        kinds: node_checks::group_kinds(s, at, &i.kinds),
     }
 }
 
@@ -121,14 +119,14 @@ fn describe(nodes: &Nodes, n: usize) -> Node
     }
 }
 
-// What the plan of a byte string is to a job where it passes: its count of nodes and its root's width.
-#[derive(Drop)]
+/// What the plan of a byte string is to a job where it passes: its count of nodes and its root's width.
+#[derive(Clone, Copy, Debug, PartialEq, Eq)]
 pub struct Root {
     pub nodes: usize,
     pub width: usize,
 }
 
-// The node count and width of the plan of a byte string that passes, else the first of 1, 2, 3, 4 that holds.
+/// The node count and width of the plan of a byte string that passes, else the first of 1, 2, 3, 4 that holds.
 pub fn root_of(s: &[u8]) -> Result<Root, Refusal>
     ensures { RootOf s.now result }
 {
@@ -146,7 +144,7 @@ pub fn root_of(s: &[u8]) -> Result<Root, Refusal>
     }
 }
 
-// Whether a byte string is a plan's that passes, else the first of 1, 2, 3, 4 that holds.
+/// Whether a byte string is a plan's that passes, else the first of 1, 2, 3, 4 that holds.
 #[tactic(auto, using(crate::specs::Answering::root_checks))]
 pub fn check(s: &[u8]) -> Result<(), Refusal>
     ensures { Checks s.now (number_of result) }

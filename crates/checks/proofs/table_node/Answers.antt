@@ -1,18 +1,9 @@
 -- `checks::table_node` makes the node that describes a table: its number is that of its width, its kinds are plain.
-use Rattle.std.proofs.Common.{refl, ap, ◌∙◌, Bool, true}
+use Rattle.std.proofs.Common.{rules}
 use Rattle.meaning.specs.Limits.{most_columns}
-use Rattle.checks.specs.Verdicts.{verdict}
 use Rattle.checks.specs.Groups.{table_described}
 use Rattle.checks.proofs.table_node.Goals as goal
 
 pub returns : goal.returns
 unfolding most_columns
-returns c =
-    table_described
-    (record {
-      number = c.verdict_of.ensures ∙ ap (λ (a : Bool). verdict 0 a true true) c.up_to-within.ensures;
-      wide = refl;
-      starts = refl;
-      parted = refl;
-      kinded = refl;
-    })
+returns c = table_described (search rules)
