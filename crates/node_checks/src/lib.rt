@@ -1,6 +1,7 @@
 #![tactic(auto)]
 
-// Refusals 2, 3 and 4 at one node of a byte string, and the kinds of its columns. Kinds are 0 for plain and 1 for weight, 16 at the most.
+// Refusals 2, 3 and 4 at one node of a byte string, and the kinds of its columns. Kinds are 0 for plain and 1 for weight, 16 at the most:
+// numbers, since what is promised here holds of any sixteen bytes; and the left width of the join below is 0 where none is below, as in `left_width`.
 ghost use Rattle.std.specs.Prelude.{◌≡◌, ◌++◌, ◌+◌, ◌*◌, ◌<◌, ◌≤◌, ltb, length, get_or, take};
 ghost use Rattle.std.specs.List.{list_all};
 ghost use Rattle.meaning.specs.Limits.{up_to};
@@ -164,17 +165,7 @@ fn aggregate_kinds(
     out
 }
 
-// The first l of the left's kinds, then the first r of the right's.
-fn append_kinds(left: [u8; 16], l: usize, right: &[u8; 16], r: usize) -> [u8; 16]
-    requires { l + r ≤ 16 }
-    ensures { take (l + r) result ≡ take l left ++ take r right.now }
-{
-    let mut out = left;
-    out[l..l + r].copy_from_slice(&right[..r]);
-    out
-}
-
-// Whether a number is at least 1 and at most `most`.
+/// Whether a number is at least 1 and at most `most`.
 #[tactic(auto, unfolding(meaning::specs::Limits::up_to))]
 pub fn up_to(most: usize, n: usize) -> bool
     ensures { result ≡ up_to most n }
@@ -182,7 +173,7 @@ pub fn up_to(most: usize, n: usize) -> bool
     (1..=most).contains(&n)
 }
 
-// 2 at a join whose inputs are l and r wide.
+/// 2 at a join whose inputs are l and r wide.
 #[tactic(auto, unfolding(node_bytes::specs::Nodes::join_size, crate::specs::Numbers::join_within_at, meaning::specs::Limits::most_columns, meaning::specs::Limits::most_pairs))]
 pub fn join_within(s: &[u8], at: usize, l: usize, r: usize) -> bool
     requires { (at + join_size s.now at ≤ length s.now) × ((l < 65536) × (r < 65536)) }
@@ -203,23 +194,18 @@ fn counts_right(tag: Tag, lefts: usize, l: usize, rights: usize, r: usize) -> bo
     }
 }
 
-// 3 at a join whose inputs are l and r wide.
+/// 3 at a join whose inputs are l and r wide.
 #[tactic(auto, using(crate::specs::Numbers::counts_said), unfolding(node_bytes::specs::Nodes::join_size, crate::specs::Numbers::join_columns_at))]
 pub fn join_columns(s: &[u8], at: usize, l: usize, r: usize) -> bool
     requires { at + join_size s.now at ≤ length s.now }
     ensures { result ≡ join_columns_at s.now at l r }
 {
+    let tag = Tag::from(s[at]);
     pairs_there(s, at + 4, s[at + 1] as usize, l, r)
-        && counts_right(
-            Tag::from(s[at]),
-            s[at + 2] as usize,
-            l,
-            s[at + 3] as usize,
-            r,
-        )
+        && counts_right(tag, s[at + 2] as usize, l, s[at + 3] as usize, r)
 }
 
-// 4 at a join whose inputs have these kinds.
+/// 4 at a join whose inputs have these kinds.
 #[tactic(auto, unfolding(node_bytes::specs::Nodes::join_size, crate::specs::Numbers::join_weights_at))]
 pub fn join_weights(s: &[u8], at: usize, left: &[u8; 16], right: &[u8; 16]) -> bool
     requires { at + join_size s.now at ≤ length s.now }
@@ -231,18 +217,19 @@ pub fn join_weights(s: &[u8], at: usize, left: &[u8; 16], right: &[u8; 16]) -> b
     defaults_right(s, from, lefts, left) && defaults_right(s, from + 9 * lefts, rights, right)
 }
 
-// The kinds of a join's columns over inputs of these kinds, l and r wide.
+/// The kinds of a join's columns over inputs of these kinds, l and r wide.
 pub fn join_kinds(left: [u8; 16], l: usize, right: &[u8; 16], r: usize) -> [u8; 16]
     requires { (l < 65536) × (r < 65536) }
     ensures { JoinKinds left l right.now r result }
 {
-    if 16 < l + r {
-        return left;
+    let mut out = left;
+    if l + r <= 16 {
+        out[l..l + r].copy_from_slice(&right[..r]);
     }
-    append_kinds(left, l, right, r)
+    out
 }
 
-// 2 at a grouping.
+/// 2 at a grouping.
 #[tactic(auto, unfolding(node_bytes::specs::Nodes::group_size, crate::specs::Numbers::group_within_at, meaning::specs::Limits::most_columns))]
 pub fn group_within(s: &[u8], at: usize) -> bool
     requires { at + group_size s.now at ≤ length s.now }
@@ -251,7 +238,7 @@ pub fn group_within(s: &[u8], at: usize) -> bool
     up_to(16, s[at + 1] as usize + s[at + 2] as usize)
 }
 
-// 3 at a grouping over w columns.
+/// 3 at a grouping over w columns.
 #[tactic(auto, using(crate::specs::Steps::group_columns_parted), unfolding(node_bytes::specs::Nodes::group_size))]
 pub fn group_columns(s: &[u8], at: usize, w: usize) -> bool
     requires { at + group_size s.now at ≤ length s.now }
@@ -264,7 +251,7 @@ pub fn group_columns(s: &[u8], at: usize, w: usize) -> bool
         && reads_there(s, behind, s[at + 2] as usize, w)
 }
 
-// 4 at a grouping over columns of these kinds; l is the left width of the join below, else 0.
+/// 4 at a grouping over columns of these kinds; l is the left width of the join below, else 0.
 #[tactic(auto, unfolding(node_bytes::specs::Nodes::group_size, crate::specs::Numbers::group_weights_at))]
 pub fn group_weights(s: &[u8], at: usize, l: usize, kinds: &[u8; 16]) -> bool
     requires { at + group_size s.now at ≤ length s.now }
@@ -275,7 +262,7 @@ pub fn group_weights(s: &[u8], at: usize, l: usize, kinds: &[u8; 16]) -> bool
     weights_right(s, at + 3 + columns, aggregates, l, kinds)
 }
 
-// The kinds of a grouping's columns over columns of these kinds.
+/// The kinds of a grouping's columns over columns of these kinds.
 #[tactic(auto, unfolding(node_bytes::specs::Nodes::group_size))]
 pub fn group_kinds(s: &[u8], at: usize, below: &[u8; 16]) -> [u8; 16]
     requires { at + group_size s.now at ≤ length s.now }
