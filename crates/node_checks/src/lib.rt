@@ -10,7 +10,7 @@ ghost use Rattle.node_bytes.specs.Nodes.{join_size, group_size};
 ghost use Rattle.node_bytes.specs.Tags.{byte_in};
 ghost use Rattle.node_checks.specs.Numbers.{join_within_at, counts_right, join_columns_at, join_weights_at, group_within_at, group_columns_at, group_weights_at, JoinKinds, GroupKinds};
 ghost use Rattle.node_checks.specs.Columns.{pairs_at, alone, all_alone, read_at, reads_at};
-ghost use Rattle.node_checks.specs.Weights.{default_at, defaults_at, weight_at, weights_at, column_kinds_at, aggregate_kind_at, aggregate_kinds_at};
+ghost use Rattle.node_checks.specs.Weights.{default_at, defaults_at, weight_at, weights_at, aggregate_kind_at};
 
 use node_bytes::Tag;
 
@@ -121,18 +121,6 @@ fn kind_of(kinds: &[u8; 16], i: usize) -> u8
     kinds.get(i).copied().unwrap_or(0)
 }
 
-// The kinds of n grouping columns from a place on, in front of the others.
-fn column_kinds(s: &[u8], from: usize, n: usize, kinds: &[u8; 16]) -> [u8; 16]
-    requires { (from + n ≤ length s.now) × (n ≤ 16) }
-    ensures { take n result ≡ column_kinds_at s.now from n kinds.now }
-{
-    let mut out = [0u8; 16];
-    for i in 0..n {
-        out[i] = kind_of(kinds, s[from + i] as usize);
-    }
-    out
-}
-
 // The kind of an aggregate over columns of these kinds.
 #[tactic(auto, unfolding(crate::specs::Weights::aggregate_kind_at))]
 fn aggregate_kind(s: &[u8], at: usize, kinds: &[u8; 16]) -> u8
@@ -144,25 +132,6 @@ fn aggregate_kind(s: &[u8], at: usize, kinds: &[u8; 16]) -> u8
     } else {
         kind_of(kinds, s[at + 1] as usize)
     }
-}
-
-// The kinds of n aggregates from a place on, behind the first `done` of those so far.
-fn aggregate_kinds(
-    s: &[u8],
-    from: usize,
-    n: usize,
-    kinds: &[u8; 16],
-    sofar: [u8; 16],
-    done: usize,
-) -> [u8; 16]
-    requires { (from + 3 * n ≤ length s.now) × (done + n ≤ 16) }
-    ensures { take (done + n) result ≡ take done sofar ++ aggregate_kinds_at s.now from n kinds.now }
-{
-    let mut out = sofar;
-    for i in 0..n {
-        out[done + i] = aggregate_kind(s, from + 3 * i, kinds);
-    }
-    out
 }
 
 /// Whether a number is at least 1 and at most `most`.
@@ -270,9 +239,14 @@ pub fn group_kinds(s: &[u8], at: usize, below: &[u8; 16]) -> [u8; 16]
 {
     let columns = s[at + 1] as usize;
     let aggregates = s[at + 2] as usize;
-    if 16 < columns + aggregates {
-        return [0u8; 16];
+    let mut out = [0u8; 16];
+    if columns + aggregates <= 16 {
+        for i in 0..columns {
+            out[i] = kind_of(below, s[at + 3 + i] as usize);
+        }
+        for k in 0..aggregates {
+            out[columns + k] = aggregate_kind(s, at + 3 + columns + 3 * k, below);
+        }
     }
-    let front = column_kinds(s, at + 3, columns, below);
-    aggregate_kinds(s, at + 3 + columns, aggregates, below, front, columns)
+    out
 }
