@@ -3,40 +3,29 @@
 // The doors: the check and the run of a plan's bytes. `firuvanta_c` opens them to C under the same names.
 ghost use Rattle.meaning.specs.Check.{Checks};
 ghost use Rattle.meaning.specs.Running.{Runs, lent_of, areas_of, answered};
+ghost use Rattle.refusals.specs.Numbers.{number_of, count_of};
 
-// The check of a plan's bytes.
-pub fn firuvanta_check(plan: &[u8]) -> u32
-    ensures { Checks plan.now result }
+use refusals::Refusal;
+use tables::Lent;
+
+// The check of a plan's bytes: whether they are a plan's that passes.
+pub fn firuvanta_check(plan: &[u8]) -> Result<(), Refusal>
+    ensures { Checks plan.now (number_of result) }
 {
     checks::check(plan)
 }
 
-// The run of a plan's bytes over lent tables.
+// The run of a plan's bytes over lent tables: how many rows the result has.
 pub fn firuvanta_run(
     plan: &[u8],
-    tables: &[usize],
-    cells: &[i64],
-    marks: &[u8],
+    lent: Lent,
     limit: usize,
     work: &mut [i64],
     work_marks: &mut [u8],
     res: &mut [i64],
     result_marks: &mut [u8],
-    rows: &mut usize,
-) -> u32
-    ensures { Runs (lent_of tables.now cells.now marks.now) limit (areas_of work.old work_marks.old res.old result_marks.old) plan.now (answered result rows.new (areas_of work.new work_marks.new res.new result_marks.new)) }
+) -> Result<usize, Refusal>
+    ensures { Runs (lent_of lent.entry.tables.now lent.entry.cells.now lent.entry.marks.now) limit (areas_of work.old work_marks.old res.old result_marks.old) plan.now (answered (number_of result) (count_of result) (areas_of work.new work_marks.new res.new result_marks.new)) }
 {
-    let outcome = runs::run(
-        plan,
-        tables,
-        cells,
-        marks,
-        limit,
-        work,
-        work_marks,
-        res,
-        result_marks,
-    );
-    *rows = outcome.rows;
-    outcome.number
+    runs::run(plan, lent, limit, work, work_marks, res, result_marks)
 }
