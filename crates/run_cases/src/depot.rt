@@ -1,9 +1,7 @@
 // The worked depot: plan A over the uses and the releases, and cases that differ from it by a number or two.
-use crate::cases::{
-    CELLS, Case, LIMIT, MARKS, PLAN, RESULT, RESULT_MARKS, TABLES, WORK, WORK_MARKS, one_column,
-};
-use crate::cells::Cells;
-use crate::plans::{COUNT, FULL_OUTER, Plan, ROWS, SUM};
+use crate::cases::Case;
+use crate::plans::{Aggregate, Join, Plan};
+use crate::store::{Store, one_column};
 use std::io;
 
 // Places in plan A.
@@ -40,7 +38,7 @@ const AGE: usize = 11;
 const LAST_CELL: usize = 23;
 
 // The uses joined with the releases on tile; the defaults that are counted follow.
-pub(crate) fn on_tile(kind: u8, left: u8, right: u8) -> Plan {
+pub(crate) fn on_tile(kind: Join, left: u8, right: u8) -> Plan {
     Plan::new()
         .table(0, 3)
         .table(1, 3)
@@ -49,7 +47,7 @@ pub(crate) fn on_tile(kind: u8, left: u8, right: u8) -> Plan {
 }
 
 pub(crate) fn full_outer() -> Plan {
-    on_tile(FULL_OUTER, 3, 3).nulls().nulls()
+    on_tile(Join::FullOuter, 3, 3).nulls().nulls()
 }
 
 fn plan_a() -> Plan {
@@ -57,15 +55,15 @@ fn plan_a() -> Plan {
         .group(2, 4)
         .column(0)
         .column(4)
-        .aggregate(ROWS, 0, 0)
-        .aggregate(SUM, 2, 0)
-        .aggregate(SUM, 5, 0)
-        .aggregate(COUNT, 2, 0)
+        .aggregate(Aggregate::Rows)
+        .aggregate(Aggregate::Sum(2))
+        .aggregate(Aggregate::Sum(5))
+        .aggregate(Aggregate::Count(2))
 }
 
-// Uses (depot, tile, age), releases (tile, class, limit), and a wrong cell behind them.
-pub(crate) fn uses_and_releases() -> Cells {
-    Cells::new()
+// Uses (depot, tile, age) and releases (tile, class, limit), and behind them a wrong table and a wrong cell.
+pub(crate) fn uses_and_releases() -> Store {
+    Store::new([3, 4, 0, 3, 4, 12, 17, 1025, 99])
         .row(1, 10, 5)
         .row(1, 10, 7)
         .row(1, 20, 4)
@@ -79,23 +77,18 @@ pub(crate) fn uses_and_releases() -> Cells {
         .cell(2147483648, 2)
 }
 
-// The uses' table, the releases', and a wrong one.
-pub(crate) fn depot_tables() -> [usize; 9] {
-    [3, 4, 0, 3, 4, 12, 17, 1025, 99]
-}
-
 // The worked depot, without what is wrong behind its lists.
 fn depot() -> Case {
-    Case::new(plan_a(), depot_tables(), uses_and_releases(), 4, 6, 7)
-        .lend(TABLES, 6)
-        .lend(CELLS, 24)
-        .lend(MARKS, 24)
+    Case::new(plan_a(), uses_and_releases(), 4, 6, 7)
+        .lend_tables(6)
+        .lend_cells(24)
+        .lend_marks(24)
 }
 
 pub(crate) fn worked_cases(rt: &impl Print) -> io::Result<()> {
     depot().run(rt, "plan A with L 7")?;
-    depot().lend(LIMIT, 6).run(rt, "plan A with L 6")?;
-    depot().lend(LIMIT, 0).run(rt, "plan A with L 0")?;
+    depot().limit(6).run(rt, "plan A with L 6")?;
+    depot().limit(0).run(rt, "plan A with L 0")?;
     depot().table(USES, 0).run(rt, "plan A over no uses")?;
     depot()
         .table(RELEASES, 0)
@@ -140,13 +133,13 @@ pub(crate) fn cell_cases(rt: &impl Print) -> io::Result<()> {
 
 pub(crate) fn table_cases(rt: &impl Print) -> io::Result<()> {
     depot()
-        .lend(TABLES, 3)
+        .lend_tables(3)
         .run(rt, "the releases' table not there")?;
     depot()
-        .lend(TABLES, 5)
+        .lend_tables(5)
         .run(rt, "the releases' table without its start")?;
     depot()
-        .lend(TABLES, 9)
+        .lend_tables(9)
         .run(rt, "a wrong table that no leaf names")?;
     depot()
         .table(RELEASES_WIDTH, 2)
@@ -172,67 +165,67 @@ pub(crate) fn table_cases(rt: &impl Print) -> io::Result<()> {
 
 pub(crate) fn lent_run_cases(rt: &impl Print) -> io::Result<()> {
     depot()
-        .lend(CELLS, 23)
+        .lend_cells(23)
         .run(rt, "a lent run of 23 cells, of 24")?;
     depot()
-        .lend(MARKS, 23)
+        .lend_marks(23)
         .run(rt, "a lent run of 23 marks, of 24")?;
     depot()
-        .lend(CELLS, 25)
+        .lend_cells(25)
         .run(rt, "a lent run of 25 cells and 24 marks")?;
     depot()
-        .lend(CELLS, 25)
-        .lend(MARKS, 25)
+        .lend_cells(25)
+        .lend_marks(25)
         .run(rt, "a wrong cell behind the tables")?;
     Ok(())
 }
 
 pub(crate) fn room_cases(rt: &impl Print) -> io::Result<()> {
     depot()
-        .lend(WORK, 447)
+        .lend_work(447)
         .run(rt, "447 cells to work in, of 448")?;
     depot()
-        .lend(WORK_MARKS, 447)
+        .lend_work_marks(447)
         .run(rt, "447 marks to work in, of 448")?;
     depot()
-        .lend(WORK, 0)
-        .lend(WORK_MARKS, 0)
+        .lend_work(0)
+        .lend_work_marks(0)
         .run(rt, "nothing to work in")?;
     depot()
-        .lend(RESULT, 41)
+        .lend_result(41)
         .run(rt, "41 cells for the result, of 42")?;
     depot()
-        .lend(RESULT_MARKS, 41)
+        .lend_result_marks(41)
         .run(rt, "41 marks for the result, of 42")?;
     depot()
-        .lend(WORK, 500)
-        .lend(WORK_MARKS, 600)
+        .lend_work(500)
+        .lend_work_marks(600)
         .run(rt, "more to work in than needed, with L 7")?;
     depot()
-        .lend(WORK, 500)
-        .lend(WORK_MARKS, 600)
-        .lend(LIMIT, 6)
+        .lend_work(500)
+        .lend_work_marks(600)
+        .limit(6)
         .run(rt, "more to work in than needed, with L 6")?;
     depot()
-        .lend(RESULT, 50)
-        .lend(RESULT_MARKS, 60)
+        .lend_result(50)
+        .lend_result_marks(60)
         .run(rt, "more for the result than needed")?;
     Ok(())
 }
 
 fn nothing() -> Case {
-    Case::new(Plan::new(), one_column(0), Cells::new(), 0, 0, 0).lend(TABLES, 0)
+    Case::new(Plan::new(), Store::new(one_column(0)), 0, 0, 0).lend_tables(0)
 }
 
 pub(crate) fn byte_cases(rt: &impl Print) -> io::Result<()> {
     nothing().run(rt, "nothing lent at all")?;
-    depot().lend(PLAN, 0).run(rt, "a plan of no bytes")?;
+    depot().lend_plan(0).run(rt, "a plan of no bytes")?;
     depot()
-        .lend(PLAN, 82)
+        .lend_plan(82)
         .run(rt, "plan A without its last byte")?;
-    depot().lend(PLAN, 84).run(rt, "plan A with a byte more")?;
+    depot().lend_plan(84).run(rt, "plan A with a byte more")?;
     depot()
-        .lend(PLAN, 6)
+        .lend_plan(6)
         .run(rt, "two tables and nothing above them")?;
     depot().byte(USES_NODE, 5).run(rt, "an unknown node")?;
     depot()
@@ -291,15 +284,15 @@ pub(crate) fn order_cases(rt: &impl Print) -> io::Result<()> {
     )?;
     depot()
         .byte(USES_NODE, 5)
-        .lend(WORK, 0)
+        .lend_work(0)
         .run(rt, "an unknown node, and no cells to work in")?;
     depot()
         .cell(AGE, 2147483648, 0)
-        .lend(LIMIT, 0)
+        .limit(0)
         .run(rt, "cell 2,147,483,648, and L 0")?;
     depot()
-        .lend(LIMIT, 6)
-        .lend(RESULT, 35)
+        .limit(6)
+        .lend_result(35)
         .run(rt, "L 6, and 35 cells for the result, of 36")?;
     Ok(())
 }

@@ -1,12 +1,12 @@
 // Tables and plans at the ends of the limits, over one column of ones.
-use crate::cases::{Case, PLAN, one_column};
-use crate::cells::Cells;
-use crate::plans::{INNER, Plan, ROWS};
+use crate::cases::Case;
+use crate::plans::{Aggregate, Join, Plan};
+use crate::store::{Store, one_column};
 use std::io;
 
 // A plan of so many nodes and such a width over a table of one column and so many rows.
 fn over_ones(plan: Plan, rows: usize, nodes: usize, width: usize, limit: usize) -> Case {
-    Case::new(plan, one_column(rows), Cells::all(1), nodes, width, limit)
+    Case::new(plan, Store::all(one_column(rows), 1), nodes, width, limit)
 }
 
 // The table itself.
@@ -17,7 +17,10 @@ fn ones(rows: usize, limit: usize) -> Case {
 // The table's rows counted.
 fn counted(rows: usize, limit: usize) -> Case {
     over_ones(
-        Plan::new().table(0, 1).group(0, 1).aggregate(ROWS, 0, 0),
+        Plan::new()
+            .table(0, 1)
+            .group(0, 1)
+            .aggregate(Aggregate::Rows),
         rows,
         2,
         1,
@@ -39,52 +42,39 @@ pub(crate) fn row_cases(rt: &impl Print) -> io::Result<()> {
     Ok(())
 }
 
-fn distinct(plan: Plan) -> Plan {
-    plan.group(1, 0).column(0)
-}
-
-fn four_times_distinct(plan: Plan) -> Plan {
-    distinct(distinct(distinct(distinct(plan))))
-}
-
 // The table below 12 groupings; without the last, 12 nodes in 47 bytes.
 fn chain() -> Case {
-    let plan = four_times_distinct(Plan::new().table(0, 1));
-    let longer = four_times_distinct(plan);
-    over_ones(four_times_distinct(longer), 1, 13, 1, 1)
+    let plan = (0..12u8).fold(Plan::new().table(0, 1), |plan, _| {
+        plan.group(1, 0).column(0)
+    });
+    over_ones(plan, 1, 13, 1, 1)
 }
 
-fn joined_with_table(plan: Plan) -> Plan {
-    plan.table(0, 1).join(INNER, 1, 0, 0).pair(0, 0)
-}
-
-// The table joined with itself, and that with it once more.
-fn three_leaves(limit: usize) -> Case {
-    let two = joined_with_table(Plan::new().table(0, 1));
-    over_ones(joined_with_table(two), 2, 5, 3, limit)
-}
-
-fn four_leaves() -> Case {
-    let two = joined_with_table(Plan::new().table(0, 1));
-    let three = joined_with_table(two);
-    over_ones(joined_with_table(three), 1, 7, 4, 1)
+// The table, joined with the table until there are so many leaves.
+fn leaves(n: u8) -> Plan {
+    (1..n).fold(Plan::new().table(0, 1), |plan, _| {
+        plan.table(0, 1).join(Join::Inner, 1, 0, 0).pair(0, 0)
+    })
 }
 
 // The table joined with itself on a count of pairs, of which 5 are there; a plan of fewer is shorter.
 fn paired(pairs: u8) -> Case {
-    let join = Plan::new().table(0, 1).table(0, 1).join(INNER, pairs, 0, 0);
+    let join = Plan::new()
+        .table(0, 1)
+        .table(0, 1)
+        .join(Join::Inner, pairs, 0, 0);
     let plan = join.pair(0, 0).pair(0, 0).pair(0, 0).pair(0, 0).pair(0, 0);
     over_ones(plan, 1, 3, 2, 1)
 }
 
 pub(crate) fn node_cases(rt: &impl Print) -> io::Result<()> {
-    chain().lend(PLAN, 47).run(rt, "12 nodes")?;
+    chain().lend_plan(47).run(rt, "12 nodes")?;
     chain().run(rt, "13 nodes")?;
-    three_leaves(8).run(rt, "3 leaves of 2 rows with L 8")?;
-    three_leaves(7).run(rt, "3 leaves of 2 rows with L 7")?;
-    four_leaves().run(rt, "4 leaves")?;
-    paired(0).lend(PLAN, 10).run(rt, "a join on no pair")?;
-    paired(4).lend(PLAN, 18).run(rt, "a join on 4 pairs")?;
+    over_ones(leaves(3), 2, 5, 3, 8).run(rt, "3 leaves of 2 rows with L 8")?;
+    over_ones(leaves(3), 2, 5, 3, 7).run(rt, "3 leaves of 2 rows with L 7")?;
+    over_ones(leaves(4), 1, 7, 4, 1).run(rt, "4 leaves")?;
+    paired(0).lend_plan(10).run(rt, "a join on no pair")?;
+    paired(4).lend_plan(18).run(rt, "a join on 4 pairs")?;
     paired(5).run(rt, "a join on 5 pairs")?;
     over_ones(Plan::new().table(0, 1).group(0, 0), 1, 2, 1, 1).run(rt, "a grouping of no columns")?;
     Ok(())
@@ -95,10 +85,11 @@ fn widened(columns: u8) -> Case {
     let plan = Plan::new()
         .table(0, columns)
         .table(1, 1)
-        .join(INNER, 1, 0, 0)
+        .join(Join::Inner, 1, 0, 0)
         .pair(0, 0);
-    let tables = [columns as usize, 1, 0, 1, 1, 0, 0, 0, 0];
-    Case::new(plan, tables, Cells::all(1), 3, columns as usize + 1, 1)
+    let width = usize::from(columns);
+    let tables = [width, 1, 0, 1, 1, 0, 0, 0, 0];
+    Case::new(plan, Store::all(tables, 1), 3, width + 1, 1)
 }
 
 pub(crate) fn column_cases(rt: &impl Print) -> io::Result<()> {

@@ -3,13 +3,14 @@
 // Runs the worked depot, and cases at the edges of what a run takes, and writes a line a case: the number that came back, the row
 // count, and what the work area and the result area hold then. The rows of a short result stand below its line.
 mod cases;
-mod cells;
 mod depot;
+mod front;
 mod groupings;
 mod joins;
 mod limits;
 mod lines;
 mod plans;
+mod store;
 
 use std::io;
 

@@ -1,94 +1,109 @@
 // Plans, put together byte behind byte as docs/ARRANGEMENT.md says.
+ghost use Rattle.std.specs.Prelude.{◌≡◌};
+ghost use Rattle.meaning.specs.Arrangement.{zigzag};
 
-// Kinds of joins.
-pub(crate) const INNER: u8 = 1;
+use crate::front::Front;
 
-pub(crate) const LEFT_OUTER: u8 = 2;
+// The kinds of joins, by the byte of their node.
+#[derive(Clone, Copy)]
+pub enum Join {
+    Inner = 1,
+    LeftOuter = 2,
+    FullOuter = 3,
+}
 
-pub(crate) const FULL_OUTER: u8 = 3;
+impl From<Join> for u8 {
+    fn from(kind: Join) -> u8 {
+        kind as u8
+    }
+}
 
-// Aggregates.
-pub(crate) const ROWS: u8 = 0;
+// The aggregates, each with the columns that it reads: v, and the weight c.
+#[derive(Clone, Copy)]
+pub enum Aggregate {
+    Rows,
+    Count(u8),
+    Sum(u8),
+    Least(u8),
+    Greatest(u8),
+    DistinctSum(u8),
+    DistinctCount(u8),
+    WeightedSum(u8, u8),
+    WeightedCount(u8, u8),
+}
 
-pub(crate) const COUNT: u8 = 1;
+impl Aggregate {
+    // Its number, v and c, with 0 for a column that it does not read.
+    fn bytes(self) -> [u8; 3] {
+        match self {
+            Aggregate::Rows => [0, 0, 0],
+            Aggregate::Count(v) => [1, v, 0],
+            Aggregate::Sum(v) => [2, v, 0],
+            Aggregate::Least(v) => [3, v, 0],
+            Aggregate::Greatest(v) => [4, v, 0],
+            Aggregate::DistinctSum(v) => [5, v, 0],
+            Aggregate::DistinctCount(v) => [6, v, 0],
+            Aggregate::WeightedSum(v, c) => [7, v, c],
+            Aggregate::WeightedCount(v, c) => [8, v, c],
+        }
+    }
+}
 
-pub(crate) const SUM: u8 = 2;
-
-pub(crate) const LEAST: u8 = 3;
-
-pub(crate) const GREATEST: u8 = 4;
-
-pub(crate) const DISTINCT_SUM: u8 = 5;
-
-pub(crate) const DISTINCT_COUNT: u8 = 6;
-
-pub(crate) const WEIGHTED_SUM: u8 = 7;
-
-pub(crate) const WEIGHTED_COUNT: u8 = 8;
+// A whole number as one that is not negative: 0, -1, 1, -2, 2 .. become 0, 1, 2, 3, 4 ..
+#[tactic(auto, unfolding(meaning::specs::Arrangement::zigzag))]
+fn zigzag(n: i64) -> u64
+    ensures { result ≡ zigzag n }
+{
+    if n < 0 {
+        2 * (!n as u64) + 1
+    } else {
+        2 * (n as u64)
+    }
+}
 
 // The longest plan of a case has 115 bytes.
-const MOST: usize = 128;
+pub(crate) const MOST_BYTES: usize = 128;
 
-// The bytes, of which the first `length` are the plan.
 #[derive(Drop)]
 pub struct Plan {
-    pub bytes: [u8; MOST],
-    pub length: usize,
+    pub bytes: Front<u8, MOST_BYTES>,
 }
 
 impl Plan {
     pub(crate) fn new() -> Plan {
-        let bytes = [0u8; MOST];
-        Plan { bytes, length: 0 }
+        Plan {
+            bytes: Front::new(0),
+        }
     }
 
-    // A byte more, while there is room.
-    fn byte(mut self, byte: u8) -> Plan {
-        let at = self.length;
-        if MOST <= at {
-            return self;
+    // These bytes more, while there is room.
+    fn append(mut self, bytes: &[u8]) -> Plan {
+        for byte in bytes {
+            self.bytes.push(*byte);
         }
-        self.bytes[at] = byte;
-        self.length = at + 1;
         self
     }
 
     pub(crate) fn table(self, number: u8, width: u8) -> Plan {
-        self.byte(0).byte(number).byte(width)
+        self.append(&[0, number, width])
     }
 
     // A join with counts of pairs, of left and of right defaults, which follow.
-    pub(crate) fn join(self, kind: u8, pairs: u8, left: u8, right: u8) -> Plan {
-        self.byte(kind).byte(pairs).byte(left).byte(right)
+    pub(crate) fn join(self, kind: Join, pairs: u8, left: u8, right: u8) -> Plan {
+        self.append(&[kind.into(), pairs, left, right])
     }
 
     pub(crate) fn pair(self, left: u8, right: u8) -> Plan {
-        self.byte(left).byte(right)
+        self.append(&[left, right])
     }
 
-    // A default whose number has these lowest bytes: 2n for n, 2n + 1 for -1 - n.
-    pub(crate) fn default(self, n: [u8; 5]) -> Plan {
-        self.byte(0)
-            .byte(n[0])
-            .byte(n[1])
-            .byte(n[2])
-            .byte(n[3])
-            .byte(n[4])
-            .byte(0)
-            .byte(0)
-            .byte(0)
+    // A default: its mark, and the eight bytes of its number.
+    pub(crate) fn default(self, n: i64) -> Plan {
+        self.append(&[0]).append(&zigzag(n).to_le_bytes())
     }
 
     pub(crate) fn null(self) -> Plan {
-        self.byte(1)
-            .byte(0)
-            .byte(0)
-            .byte(0)
-            .byte(0)
-            .byte(0)
-            .byte(0)
-            .byte(0)
-            .byte(0)
+        self.append(&[1]).append(&[0; 8])
     }
 
     // The defaults of three columns.
@@ -98,14 +113,14 @@ impl Plan {
 
     // A grouping with counts of columns and of aggregates, which follow.
     pub(crate) fn group(self, columns: u8, aggregates: u8) -> Plan {
-        self.byte(4).byte(columns).byte(aggregates)
+        self.append(&[4, columns, aggregates])
     }
 
     pub(crate) fn column(self, column: u8) -> Plan {
-        self.byte(column)
+        self.append(&[column])
     }
 
-    pub(crate) fn aggregate(self, name: u8, v: u8, c: u8) -> Plan {
-        self.byte(name).byte(v).byte(c)
+    pub(crate) fn aggregate(self, aggregate: Aggregate) -> Plan {
+        self.append(&aggregate.bytes())
     }
 }
