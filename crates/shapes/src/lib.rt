@@ -1,6 +1,7 @@
 #![tactic(auto)]
 
 // The shape of a byte string: its nodes, one behind the other, and whether they make one tree.
+// A node is named by its string and its place in it, as the definitions name it: the rest of the string would be another string.
 ghost use Rattle.std.specs.Prelude.{◌≡◌, ℕ, ◌+◌, ◌*◌, ◌<◌, ◌≤◌, length, get_or};
 ghost use Rattle.node_bytes.specs.Nodes.{byte, cell_good, cells_good, aggregate_good, aggregates_good, join_size, group_size, join_good, group_good, size_if, node_size, inputs};
 ghost use Rattle.node_bytes.specs.Tags.{byte_in};
@@ -155,13 +156,13 @@ pub fn shape_of(s: &[u8]) -> Option<Shape>
     ensures { result ≡ shape_of s.now }
 {
     let mut at = 0;
-    let mut trees = 0;
+    let mut trees: usize = 0;
     let mut nodes = 0;
     let mut leaves = 0;
     while at < s.len() {
         let size = node_size(s, at)?;
         let tag = Tag::from(s[at]);
-        trees = usize::checked_sub(trees, takes(tag))? + 1;
+        trees = trees.checked_sub(takes(tag))? + 1;
         nodes += 1;
         if tag == Tag::Table {
             leaves += 1;
@@ -179,8 +180,8 @@ impl<'a> Nodes<'a> {
     {
         let mut starts = [0; 12];
         let mut at = 0;
-        for k in 0..12 {
-            starts[k] = at;
+        for start in &mut starts {
+            *start = at;
             at += node_size(bytes, at).unwrap_or(0);
         }
         Nodes { bytes, starts }
