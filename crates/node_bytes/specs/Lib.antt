@@ -4,3 +4,4 @@ pub mod Rows
 pub mod Widths
 pub mod Nodes
 pub mod Tags
+pub mod Each

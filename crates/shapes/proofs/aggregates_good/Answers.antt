@@ -1,13 +1,9 @@
 -- `shapes::aggregates_good` tests each aggregate: things of three bytes, one behind the other.
-use Rattle.std.proofs.Common.{rules, refl, ◌∙◌, arith}
-use Rattle.std.proofs.lemmas.Iterator.{YieldsList-from_range}
-use Rattle.std.proofs.lemmas.Iterator.Search.{all_from_yields_List}
+use Rattle.std.proofs.Common.{rules}
 use Rattle.node_bytes.specs.Nodes.{aggregate_good, aggregates_good}
-use Rattle.node_bytes.specs.Rows.{every_of-range}
+use Rattle.node_bytes.specs.Each.{each_tested}
 use Rattle.shapes.proofs.aggregates_good.Goals as goal
 
 pub returns : goal.returns
 unfolding aggregates_good
-returns c =
-    all_from_yields_List _ _ _ _ c.all.ensures.ran (YieldsList-from_range 0 c.args.n c.args.n refl (omega arith)) (λ x b q h. search rules)
-    ∙ every_of-range (aggregate_good c.args.s.now) 3 c.args.from c.args.n
+returns c = each_tested (aggregate_good c.args.s.now) 3 c.args.from c.args.n c.all.ensures.ran (λ x b q h. search rules)
