@@ -4,7 +4,7 @@ use crate::plans::{Aggregate, Join, Plan};
 use crate::store::{Store, one_column};
 use std::io;
 
-// Places in plan A.
+// Places in plan A, as numbers, since the bytes that cases write there make a string that is no plan's.
 const USES_NODE: usize = 0;
 
 const RELEASES_COLUMNS: usize = 5;

@@ -88,7 +88,7 @@ impl Plan {
         self.append(&[0, number, width])
     }
 
-    // A join with counts of pairs, of left and of right defaults, which follow.
+    // A join with counts of pairs, of left and of right defaults, which follow; no slices, since cases count wrongly.
     pub(crate) fn join(self, kind: Join, pairs: u8, left: u8, right: u8) -> Plan {
         self.append(&[kind.into(), pairs, left, right])
     }

@@ -2,7 +2,8 @@
 use crate::front::Front;
 use tables::Lent;
 
-// How many numbers the list of tables has: three a table, its width, its rows and its start.
+// How many numbers the list of tables has: three a table, its width, its rows and its start. No struct a table, since cases
+// lend the list as far as the middle of a table.
 pub(crate) const NUMBERS: usize = 9;
 
 // A column of one row more than a table may have.
@@ -49,7 +50,7 @@ impl Store {
         })
     }
 
-    // A cell and its mark more, while there is room.
+    // A cell and its mark more, while there is room. The mark is a number, since cases lend marks that are none.
     pub(crate) fn cell(mut self, cell: i64, mark: u8) -> Store {
         self.cells.push(cell);
         self.marks.push(mark);
