@@ -3,7 +3,7 @@
 use Rattle.std.specs.Prelude.{◌≡◌, Bool, true, false, ◌&&◌}
 use Rattle.std.proofs.Math.Path.{refl}
 use Rattle.std.specs.List.{list_all, range_with_len}
-use Rattle.std.proofs.Common.{sym, ap, ◌∙◌, add-one, List, [], ◌∷◌, ◌++◌, map, ℕ, zero, suc, ◌+◌, ◌*◌, ◌-◌, ◌<◌, ◌≤◌, arith}
+use Rattle.std.proofs.Common.{sym, ap, ◌∙◌, add-one, List, [], ◌∷◌, ◌++◌, map, ℕ, zero, suc, ◌+◌, ◌*◌, ◌≤◌, arith}
 use Rattle.std.proofs.Math.ListN.{length, length-append}
 use Rattle.meaning.specs.Arrangement.{in_row}
 use Rattle.meaning.specs.Check.{all}
@@ -20,22 +20,6 @@ unfoldable pub list_at : {A : Type 0} → (ℕ → A) → ℕ → ℕ → ℕ �
 list_at g k at zero = []
 list_at g k at (suc n) = g at ∷ list_at g k (at + k) n
 
--- the laws of a loop that tests: nothing left, a thing that fails, a thing that passes
-pub every-none : (f : ℕ → Bool) (k at n : ℕ) → n ≤ 0 → every f k at n ≡ true
-unfolding every
-every-none f k at zero h = refl
-every-none f k at (suc n) h = absurd (omega arith)
-
-pub every_fails : (f : ℕ → Bool) (k at n : ℕ) → 0 < n → f at ≡ false → every f k at n ≡ false
-unfolding every
-every_fails f k at zero h e = absurd (omega arith)
-every_fails f k at (suc n) h e = simp e
-
-pub every-passes : (f : ℕ → Bool) (k at n : ℕ) → 0 < n → f at ≡ true → every f k at n ≡ every f k (at + k) (n - 1)
-unfolding every
-every-passes f k at zero h e = absurd (omega arith)
-every-passes f k at (suc n) h e = let q : suc n - 1 ≡ n = omega arith in simp (e, q)
-
 -- two rows of one kind of thing, one behind the other
 pub every_append : (t : ℕ → Bool) (k at n m : ℕ) → every t k at (n + m) ≡ (every t k at n && every t k (at + k * n) m)
 unfolding every
@@ -49,27 +33,6 @@ every_append t k at (suc n) m =
     step : (a b c d : Bool) → b ≡ (c && d) → (a && b) ≡ ((a && c) && d)
     step true b c d e = e
     step false b c d e = refl
-
--- a loop that tests n things from a place on has come to `at`, with `left` of them left
-pub record Walk (f : ℕ → Bool) (k from n at left : ℕ) : Type 0 where
-  pub rest : every f k at left ≡ every f k from n
-  pub ends : at + k * left ≡ from + k * n
-
-pub walk_starts : (f : ℕ → Bool) (k from n : ℕ) → Walk f k from n from n
-walk_starts f k from n = record { rest = refl; ends = refl }
-
-module _ {f : ℕ → Bool} {k from n at left : ℕ} (w : Walk f k from n at left) where
-  pub walk_passes : 0 < left → f at ≡ true → Walk f k from n (at + k) (left - 1)
-  walk_passes h e = record {
-    rest = sym (every-passes f k at left h e) ∙ w.rest;
-    ends = let q : left ≡ suc (left - 1) = omega arith in let m : k * left ≡ k * suc (left - 1) = ap (λ (x : ℕ). k * x) q in omega (arith, w.ends);
-  }
-
-  pub walk_fails : 0 < left → f at ≡ false → false ≡ every f k from n
-  walk_fails h e = sym (every_fails f k at left h e) ∙ w.rest
-
-  pub walk_ends : left ≤ 0 → true ≡ every f k from n
-  walk_ends h = sym (every-none f k at left h) ∙ w.rest
 
 -- the same test, as `all` makes it over the numbers of the things
 every_numbered : (f : ℕ → Bool) (k at a n : ℕ) → list_all (λ (i : ℕ). f (at + k * i)) (range_with_len a n) ≡ every f k (at + k * a) n

@@ -159,6 +159,7 @@ pub fn shape_of(s: &[u8]) -> Option<Shape>
     let mut trees: usize = 0;
     let mut nodes = 0;
     let mut leaves = 0;
+    // a turn moves on by a node's size, so no range counts the places
     while at < s.len() {
         let size = node_size(s, at)?;
         let tag = Tag::from(s[at]);
