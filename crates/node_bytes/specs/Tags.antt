@@ -1,6 +1,6 @@
 -- The kind of a node that its first byte says, and what a `match` on it settles about the byte.
-use Rattle.std.specs.Prelude.{◌≡◌, ◌⊎◌, [], ◌∷◌, ℕ, ◌<◌, ◌≤◌, min, get_or}
-use Rattle.std.proofs.Common.{ap, ◌∙◌, inl, inr, arith, rules}
+use Rattle.std.specs.Prelude.{◌≡◌, [], ◌∷◌, ℕ, ◌<◌, ◌≤◌, min, get_or}
+use Rattle.std.proofs.Common.{ap, ◌∙◌, arith, rules}
 use Rattle.std.proofs.Math.Dec.{eqb, eqb→eq}
 use Rattle.std.proofs.Math.Decide.{dec_lt}
 use Rattle.rules.specs.Below.{below}
@@ -54,24 +54,10 @@ module _ (b : ℕ) where
   pub says_other : tag_of b ≡ Other → 5 ≤ b
   says_other e = omega (arith, byte_said b, ap byte_in e)
 
-  -- a join of one of its three kinds
-  pub says_join : (tag_of b ≡ Inner) ⊎ ((tag_of b ≡ LeftOuter) ⊎ (tag_of b ≡ FullOuter)) → (1 ≤ b) × (b ≤ 3)
-  says_join (inl e) = let q : b ≡ 1 = says_inner e in (omega arith, omega arith)
-  says_join (inr (inl e)) = let q : b ≡ 2 = says_left_outer e in (omega arith, omega arith)
-  says_join (inr (inr e)) = let q : b ≡ 3 = says_full_outer e in (omega arith, omega arith)
-
   -- and what it rules out
   pub not_table : (tag_of b ≡ Table → ⊥) → b ≡ 0 → ⊥
   unfolding tag_of
   not_table f e = f (ap tag_of e)
-
-  pub not_inner : (tag_of b ≡ Inner → ⊥) → b ≡ 1 → ⊥
-  unfolding tag_of
-  not_inner f e = f (ap tag_of e)
-
-  pub not_left_outer : (tag_of b ≡ LeftOuter → ⊥) → b ≡ 2 → ⊥
-  unfolding tag_of
-  not_left_outer f e = f (ap tag_of e)
 
   pub not_full_outer : (tag_of b ≡ FullOuter → ⊥) → b ≡ 3 → ⊥
   unfolding tag_of
@@ -80,10 +66,3 @@ module _ (b : ℕ) where
   pub not_grouping : (tag_of b ≡ Grouping → ⊥) → b ≡ 4 → ⊥
   unfolding tag_of
   not_grouping f e = f (ap tag_of e)
-
-  pub not_other : (tag_of b ≡ Other → ⊥) → b < 5
-  not_other f = by_number (dec_lt b 5)
-    where
-      by_number : Dec (b < 5) → b < 5
-      by_number (yes l) = l
-      by_number (no l) = absurd (f (tag_other b (omega arith)))

@@ -1,4 +1,4 @@
--- The name that a number says, and what a `match` on it settles about the number.
+-- The name that a number says, and the number of a name.
 use Rattle.std.specs.Prelude.{◌≡◌, [], ◌∷◌, ℕ, ◌<◌, ◌≤◌, min, get_or}
 use Rattle.std.proofs.Common.{ap, ◌∙◌, arith, rules}
 use Rattle.std.proofs.Math.Dec.{eqb, eqb→eq}
@@ -38,78 +38,13 @@ number_said n = by_number (dec_lt n 9)
     by_number (yes l) = eqb→eq _ _ (below (λ (k : ℕ). eqb (number_in (named k)) (min k 9)) 9 tt n l)
     by_number (no l) = ap number_in (named_other n (omega arith)) ∙ (let m : 9 ≡ min n 9 = omega arith in m)
 
--- what a `match` on the name settles about the number
-module _ (n : ℕ) where
-  pub says_rows : named n ≡ Rows → n ≡ 0
-  says_rows e = omega (arith, number_said n, ap number_in e)
+-- a `match` on the name settles whether a number is one of the nine
+pub says_other : (n : ℕ) → named n ≡ Other → 9 ≤ n
+says_other n e = omega (arith, number_said n, ap number_in e)
 
-  pub says_count : named n ≡ Count → n ≡ 1
-  says_count e = omega (arith, number_said n, ap number_in e)
-
-  pub says_sum : named n ≡ Sum → n ≡ 2
-  says_sum e = omega (arith, number_said n, ap number_in e)
-
-  pub says_least : named n ≡ Least → n ≡ 3
-  says_least e = omega (arith, number_said n, ap number_in e)
-
-  pub says_greatest : named n ≡ Greatest → n ≡ 4
-  says_greatest e = omega (arith, number_said n, ap number_in e)
-
-  pub says_distinct_sum : named n ≡ DistinctSum → n ≡ 5
-  says_distinct_sum e = omega (arith, number_said n, ap number_in e)
-
-  pub says_distinct_count : named n ≡ DistinctCount → n ≡ 6
-  says_distinct_count e = omega (arith, number_said n, ap number_in e)
-
-  pub says_weighted_sum : named n ≡ WeightedSum → n ≡ 7
-  says_weighted_sum e = omega (arith, number_said n, ap number_in e)
-
-  pub says_weighted_count : named n ≡ WeightedCount → n ≡ 8
-  says_weighted_count e = omega (arith, number_said n, ap number_in e)
-
-  pub says_other : named n ≡ Other → 9 ≤ n
-  says_other e = omega (arith, number_said n, ap number_in e)
-
-  -- and what it rules out
-  pub not_rows : (named n ≡ Rows → ⊥) → n ≡ 0 → ⊥
-  unfolding named
-  not_rows f e = f (ap named e)
-
-  pub not_count : (named n ≡ Count → ⊥) → n ≡ 1 → ⊥
-  unfolding named
-  not_count f e = f (ap named e)
-
-  pub not_sum : (named n ≡ Sum → ⊥) → n ≡ 2 → ⊥
-  unfolding named
-  not_sum f e = f (ap named e)
-
-  pub not_least : (named n ≡ Least → ⊥) → n ≡ 3 → ⊥
-  unfolding named
-  not_least f e = f (ap named e)
-
-  pub not_greatest : (named n ≡ Greatest → ⊥) → n ≡ 4 → ⊥
-  unfolding named
-  not_greatest f e = f (ap named e)
-
-  pub not_distinct_sum : (named n ≡ DistinctSum → ⊥) → n ≡ 5 → ⊥
-  unfolding named
-  not_distinct_sum f e = f (ap named e)
-
-  pub not_distinct_count : (named n ≡ DistinctCount → ⊥) → n ≡ 6 → ⊥
-  unfolding named
-  not_distinct_count f e = f (ap named e)
-
-  pub not_weighted_sum : (named n ≡ WeightedSum → ⊥) → n ≡ 7 → ⊥
-  unfolding named
-  not_weighted_sum f e = f (ap named e)
-
-  pub not_weighted_count : (named n ≡ WeightedCount → ⊥) → n ≡ 8 → ⊥
-  unfolding named
-  not_weighted_count f e = f (ap named e)
-
-  pub not_other : (named n ≡ Other → ⊥) → n < 9
-  not_other f = by_number (dec_lt n 9)
-    where
-      by_number : Dec (n < 9) → n < 9
-      by_number (yes l) = l
-      by_number (no l) = absurd (f (named_other n (omega arith)))
+pub not_other : (n : ℕ) → (named n ≡ Other → ⊥) → n < 9
+not_other n f = by_number (dec_lt n 9)
+  where
+    by_number : Dec (n < 9) → n < 9
+    by_number (yes l) = l
+    by_number (no l) = absurd (f (named_other n (omega arith)))
