@@ -5,3 +5,4 @@ pub mod Widths
 pub mod Nodes
 pub mod Tags
 pub mod Each
+pub mod Steps

@@ -1,3 +1,4 @@
 pub mod Shapes
 pub mod Sizes
 pub mod Scanning
+pub mod Steps
