@@ -1,8 +1,9 @@
 -- A part of a run of memory copied to another place of the same run or of another one.
-use Rattle.std.specs.Prelude.{◌≡◌, ◌⊎◌, List, ℕ, ◌+◌, ◌<◌, ◌≤◌, length, get_or, ℤ, pos}
-use Rattle.std.proofs.Common.{◌∙◌, arith}
+use Rattle.std.specs.Prelude.{◌≡◌, ◌⊎◌, List, ℕ, ◌+◌, ◌<◌, ◌≤◌, length, get_or, set, ℤ, pos}
+use Rattle.std.proofs.Common.{sym, ap, ◌∙◌, ⊎_elim, arith, length-set, get_or-set_same, get_or-set_other}
+use Rattle.std.proofs.Math.Decide.{dec_lt}
 use Rattle.node_bytes.specs.Holding.{Span}
-use Rattle.regions.specs.Keeping.{Kept}
+use Rattle.regions.specs.Keeping.{Kept, kept-all}
 
 -- n elements of `source` from a place on now stand in s', which was s, from another place on; nothing else of s changed
 pub record Copied {A : Type 0} (d : A) (source s s' : List A) (from to n : ℕ) : Type 0 where
@@ -37,6 +38,34 @@ pub record CopiedIn (source : List ℤ) (source_marks : List ℕ) (cells : List 
   pub marks-copied : Copied 0 source_marks marks marks' from to n
 
 module _ {A : Type 0} {d : A} where
+  -- the laws of a loop that copies: nothing yet, and one element more
+  pub copied_none : (source s : List A) (from to : ℕ) → Copied d source s s from to 0
+  copied_none source s from to = record { kept = kept-all; moved = λ i l. absurd (omega arith) }
+
+  pub copied_more : (source s s' : List A) (from to n : ℕ) (v : A) → Copied d source s s' from to n → to + n < length s → v ≡ get_or source (from + n) d
+      → Copied d source s (set s' (to + n) v) from to (n + 1)
+  copied_more source s s' from to n v c l e = record {
+    kept = record {
+      long = length-set s' (to + n) v ∙ c.kept.long;
+      below = λ i b. get_or-set_other s' (to + n) i v d (λ q. omega arith) ∙ c.kept.below i b;
+      above = λ i b. get_or-set_other s' (to + n) i v d (λ q. omega arith) ∙ c.kept.above i (omega arith);
+    };
+    moved = λ i b. each i b (dec_lt i n);
+  }
+    where
+      each : (i : ℕ) → i < n + 1 → Dec (i < n) → get_or (set s' (to + n) v) (to + i) d ≡ get_or source (from + i) d
+      each i b (yes h) = get_or-set_other s' (to + n) (to + i) v d (λ q. omega arith) ∙ c.moved i h
+      each i b (no h) =
+          let q : i ≡ n = omega arith in
+          ap (λ (k : ℕ). get_or (set s' (to + n) v) (to + k) d) q
+          ∙ get_or-set_same s' (to + n) v d (omega (arith, c.kept.long))
+          ∙ e
+          ∙ ap (λ (k : ℕ). get_or source (from + k) d) (sym q)
+
+  -- a copy within one list reads what stood there at first
+  pub source-kept : {s s' : List A} {from to i n : ℕ} → Copied d s s s' from to i → Apart from to n → i < n → get_or s' (from + i) d ≡ get_or s (from + i) d
+  source-kept c a l = ⊎_elim (λ b. c.kept.below _ (omega arith)) (λ b. c.kept.above _ (omega arith)) a
+
   -- what lay at the source lies at the copy
   pub copied_span : {source s s' : List A} {from to : ℕ} (xs : List A) → Copied d source s s' from to (length xs) → to + length xs ≤ length s
       → Span d source from xs → Span d s' to xs
