@@ -95,7 +95,7 @@ module _ {s : List ℕ} {at trees n l : ℕ} (c : Scanned s at trees n l) where
       enough = omega arith
 
 -- a node starts where the one before it ends
-start-next : (s : List ℕ) (k : ℕ) → start_of s (k + 1) ≡ start_of s k + node_size s (start_of s k)
+pub start-next : (s : List ℕ) (k : ℕ) → start_of s (k + 1) ≡ start_of s k + node_size s (start_of s k)
 unfolding start_of
 start-next s k = rw add-one refl
 
