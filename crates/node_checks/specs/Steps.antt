@@ -1,9 +1,9 @@
--- The tests that go over n things, as `all` makes them: bytes of a part, columns that are all different, defaults with their kinds;
--- and one turn of a loop that writes a list from the front.
+-- The tests that go over n things, as `all` makes them and thing by thing: bytes of a part, columns that are all different, defaults
+-- with their kinds; and one turn of a loop that writes a list from the front.
 use Rattle.std.specs.Prelude.{◌≡◌, refl, Bool, true, false, not, ◌&&◌, ◌||◌, List, [], ◌∷◌, ◌++◌, ℕ, zero, suc, ◌+◌, ◌*◌, ◌-◌, ◌<◌, ◌≤◌, eqb, ltb, length, get_or, take, drop, set, slice_range, Option, MatchOption}
 use Rattle.std.specs.declared.ops.Range.{Range}
 use Rattle.std.specs.List.{FoldsTo, list_all, list_any, range_with_len}
-use Rattle.std.proofs.Common.{sym, ap, ◌∙◌, append-nil, append_assoc, add-one, arith, length-take, length-drop, drop-cons, get_or-take, get_or-drop, length-set, take-suc-set}
+use Rattle.std.proofs.Common.{sym, ap, ◌∙◌, append-nil, append_assoc, add-one, arith, length-take, length-drop, drop-cons, get_or-take, get_or-drop, length-set, take-suc, take-suc-set}
 use Rattle.std.proofs.lemmas.List.{drop-take, drop-drop}
 use Rattle.std.proofs.lemmas.Iterator.{YieldsList-from_range}
 use Rattle.std.proofs.lemmas.Iterator.Search.{all_from_yields_List}
@@ -76,6 +76,23 @@ module _ (s : List ℕ) (at n : ℕ) (h : at + n ≤ length s) where
       let q : at + 0 ≡ at = omega arith in
       rw (e, l) (distinct_from 0 n (omega arith) ∙ ap (λ (x : ℕ). distinct_at s x n) q)
 
+-- columns that are all different: none are left, or the first is absent from the others and these are all different
+pub distinct_none : (s : List ℕ) (at n : ℕ) → n ≤ 0 → distinct_at s at n ≡ true
+unfolding distinct_at
+distinct_none s at zero h = refl
+distinct_none s at (suc n) h = absurd (omega arith)
+
+pub distinct_fails : (s : List ℕ) (at n : ℕ) → 0 < n → absent_at s (at + 1) (n - 1) (byte s at) ≡ false → distinct_at s at n ≡ false
+unfolding distinct_at
+distinct_fails s at zero h e = absurd (omega arith)
+distinct_fails s at (suc n) h e = let q : suc n - 1 ≡ n = omega arith in simp (rw q at e)
+
+pub distinct-passes : (s : List ℕ) (at n : ℕ) → 0 < n → absent_at s (at + 1) (n - 1) (byte s at) ≡ true
+    → distinct_at s at n ≡ distinct_at s (at + 1) (n - 1)
+unfolding distinct_at
+distinct-passes s at zero h e = absurd (omega arith)
+distinct-passes s at (suc n) h e = let q : suc n - 1 ≡ n = omega arith in simp (rw q at e, q)
+
 -- 3 at a grouping that ends inside the string, whose columns are a part of it
 pub group_columns_parted : (s : List ℕ) (at w : ℕ) → at + group_size s at ≤ length s
     → group_columns_at s at w
@@ -98,6 +115,23 @@ defaults_from s ks at a (suc n) =
 pub defaults_of-range : (s ks : List ℕ) (at n : ℕ)
     → list_all (λ (i : ℕ). default_at s (at + 9 * i) (get_or ks i 0)) (range_with_len 0 n) ≡ defaults_at s at n ks 0
 defaults_of-range s ks at n = let q : at + 9 * 0 ≡ at = omega arith in defaults_from s ks at 0 n ∙ ap (λ (x : ℕ). defaults_at s x n ks 0) q
+
+-- defaults that are right: none are left, or the first is right for its kind and the others are right for theirs
+pub defaults-none : (s : List ℕ) (at n : ℕ) (ks : List ℕ) (i : ℕ) → n ≤ 0 → defaults_at s at n ks i ≡ true
+unfolding defaults_at
+defaults-none s at zero ks i h = refl
+defaults-none s at (suc n) ks i h = absurd (omega arith)
+
+pub defaults_fails : (s : List ℕ) (at n : ℕ) (ks : List ℕ) (i : ℕ) → 0 < n → default_at s at (get_or ks i 0) ≡ false → defaults_at s at n ks i ≡ false
+unfolding defaults_at
+defaults_fails s at zero ks i h e = absurd (omega arith)
+defaults_fails s at (suc n) ks i h e = simp e
+
+pub defaults-passes : (s : List ℕ) (at n : ℕ) (ks : List ℕ) (i : ℕ) → 0 < n → default_at s at (get_or ks i 0) ≡ true
+    → defaults_at s at n ks i ≡ defaults_at s (at + 9) (n - 1) ks (i + 1)
+unfolding defaults_at
+defaults-passes s at zero ks i h e = absurd (omega arith)
+defaults-passes s at (suc n) ks i h e = let q : suc n - 1 ≡ n = omega arith in simp (e, q)
 
 -- a list of 16 into which a front and the first i of some things are written, up to a place
 pub record Listed (front : List ℕ) (g : ℕ → ℕ) (k from i place : ℕ) (out : List ℕ) : Type 0 where
@@ -126,3 +160,15 @@ module _ {front : List ℕ} {g : ℕ → ℕ} {k from i place : ℕ} {out : List
 
   pub listed-ends : (n end : ℕ) → i ≡ n → place ≡ end → take end out ≡ front ++ list_at g k from n
   listed-ends n end q e = rw (← q, ← e) l.first
+
+-- the elements of a list, one behind the other, are its front
+pub list_take : (xs : List ℕ) (n : ℕ) → n ≤ length xs → list_at (λ (j : ℕ). get_or xs j 0) 1 0 n ≡ take n xs
+unfolding list_at
+list_take xs zero h = refl
+list_take xs (suc n) h =
+    let q : 0 + 1 * n ≡ n = omega arith in
+    ap (λ (m : ℕ). list_at (λ (j : ℕ). get_or xs j 0) 1 0 m) (sym (add-one n))
+    ∙ list_more (λ (j : ℕ). get_or xs j 0) 1 0 n
+    ∙ ap (λ (m : ℕ). list_at (λ (j : ℕ). get_or xs j 0) 1 0 n ++ (get_or xs m 0 ∷ [])) q
+    ∙ ap (λ (l : List ℕ). l ++ (get_or xs n 0 ∷ [])) (list_take xs n (omega arith))
+    ∙ sym (take-suc xs n 0 (omega arith))

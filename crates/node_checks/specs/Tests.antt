@@ -1,8 +1,16 @@
 -- Tests of numbers that agree, by what they test.
-use Rattle.std.specs.Prelude.{◌≡◌, ℕ, ◌<◌, ◌≤◌, eqb, leb}
+use Rattle.std.specs.Prelude.{◌≡◌, not, ℕ, ◌<◌, ◌≤◌, eqb, leb, ltb}
 use Rattle.std.proofs.Math.Decide.{ℕ_discrete, dec_le}
-use Rattle.std.proofs.Common.{arith, le-leb, eq-eqb, ne_eqb}
+use Rattle.std.proofs.Common.{arith, lt-ltb, le-ltb, le-leb, eq-eqb, ne_eqb}
 use Rattle.std.proofs.lemmas.Bool.{lt-leb}
+
+-- at most is not less, the other way round
+pub leb-not-ltb : (a b : ℕ) → leb a b ≡ not (ltb b a)
+leb-not-ltb a b = by_case (dec_le a b)
+  where
+    by_case : Dec (a ≤ b) → leb a b ≡ not (ltb b a)
+    by_case (yes h) = simp (le-leb a b h, le-ltb b a h)
+    by_case (no n) = let h : b < a = omega arith in simp (lt-leb a b h, lt-ltb b a h)
 
 pub leb-same : (a b c d : ℕ) → (a ≤ b → c ≤ d) → (c ≤ d → a ≤ b) → leb a b ≡ leb c d
 leb-same a b c d to back = by_case (dec_le a b)
