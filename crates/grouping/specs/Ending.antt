@@ -49,7 +49,7 @@ module _ {cols : List ℕ} {cells : List ℤ} {marks : List ℕ} {base rows w i 
   row-marks j l = omega (arith, held-marks_fit (row_here j l), row-wide j l)
 
   -- the first row of the run
-  alike-one : Alike cols u i (i + 1)
+  pub alike-one : Alike cols u i (i + 1)
   alike-one = record {
     after = omega arith;
     within = omega (arith, long, r.before);
@@ -74,25 +74,25 @@ module _ {cols : List ℕ} {cells : List ℤ} {marks : List ℕ} {base rows w i 
 
     -- one row more, or the end
     module _ (a : Alike cols u i e) where
-      alike-more : keys_same cols cells marks (base + e * w) (base + i * w) ≡ true → Alike cols u i (e + 1)
+      pub alike-more : keys_same cols cells marks (base + e * w) (base + i * w) ≡ true → Alike cols u i (e + 1)
       alike-more g = record { after = omega (arith, a.after); within = omega (arith, long); alike = λ j x y. each j x y (dec_lt j e) }
         where
           each : (j : ℕ) → i ≤ j → j < e + 1 → Dec (j < e) → same_key (key cols (get_or u j [])) (key cols (get_or u i [])) ≡ true
           each j x y (yes m) = a.alike j x m
           each j x y (no m) = let q : j ≡ e = omega arith in rw q (sym keys_read ∙ g)
 
-      ends-here : keys_same cols cells marks (base + e * w) (base + i * w) ≡ false → RunEnd cols u i e
+      pub ends-here : keys_same cols cells marks (base + e * w) (base + i * w) ≡ false → RunEnd cols u i e
       ends-here g = record { after = a.after; within = a.within; alike = a.alike; stops = λ m. sym keys_read ∙ g }
 
-  ends_last : Alike cols u i rows → RunEnd cols u i rows
-  ends_last a = record { after = a.after; within = a.within; alike = a.alike; stops = λ b. absurd (omega (arith, long)) }
+  pub ends_last : (e : ℕ) → Alike cols u i e → rows ≤ e → RunEnd cols u i e
+  ends_last e a m = record { after = a.after; within = a.within; alike = a.alike; stops = λ b. absurd (omega (arith, long)) }
 
   -- the first of the rows behind whose key is another one, or the number of rows
   abbrev pub differs : ℕ → Bool
   differs e = not (keys_same cols cells marks (base + e * w) (base + i * w))
 
   end_from : (e k : ℕ) → e + k ≡ rows → Alike cols u i e → RunEnd cols u i (unwrap_or (find differs (range_with_len e k)) rows)
-  end_from e zero q a = let z : e ≡ rows = omega arith in ends_last (rw z at a)
+  end_from e zero q a = let z : e ≡ rows = omega arith in ends_last rows (rw z at a) (omega arith)
   end_from e (suc k) q a = pick (λ m. end_from (e + 1) k (omega arith) m) (keys_same cols cells marks (base + e * w) (base + i * w)) refl
     where
       pick : (Alike cols u i (e + 1) → RunEnd cols u i (unwrap_or (find differs (range_with_len (e + 1) k)) rows))

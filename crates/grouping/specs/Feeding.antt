@@ -6,12 +6,12 @@ use Rattle.meaning.specs.Cells.{Cell, null, num}
 use Rattle.meaning.specs.Plans.{Row, Table, Name, Aggregate, name_of, columns_read}
 use Rattle.meaning.specs.Joining.{cell}
 use Rattle.meaning.specs.Aggregating.{values_of}
-use Rattle.meaning.specs.Running.{cell_from, cells_from, rows_from}
+use Rattle.meaning.specs.Running.{cell_from, cells_from, rows_from, cell_number, cell_mark}
 use Rattle.meaning.proofs.Widths.{cells-long, rows_long}
 use Rattle.arrangement.proofs.Items.{number-name}
 use Rattle.rules.specs.Lines.{name_at}
 use Rattle.rules.specs.Named.{named}
-use Rattle.regions.specs.Holding.{Held, HeldRows, held-cells_fit, held-marks_fit, row-held}
+use Rattle.regions.specs.Holding.{Held, HeldRows, held_number, held-mark, held-cells_fit, held-marks_fit, row-held}
 use Rattle.regions.specs.Reading.{number_or_none, cell_of, cells_at, row_at}
 use Rattle.running.specs.declared.Running.{Running}
 use Rattle.running.specs.States.{add_to, start_of, Room}
@@ -132,7 +132,15 @@ module _ {name v c : ℕ} {cells : List ℤ} {marks : List ℕ} {base rows w : �
     pub row-marks : base + k * w + w ≤ length marks
     row-marks = omega (arith, held-marks_fit row_here, row-long)
 
-    -- what is read of the row
+    -- what is read of the row: its number, its mark, and both as a number or none
+    pub read_number : (i : ℕ) → i < w → get_or cells (base + k * w + i) (pos 0) ≡ cell_number (cell row i)
+    unfolding cell
+    read_number i b = held_number row_here i (omega (arith, row-long))
+
+    pub read-mark : (i : ℕ) → i < w → get_or marks (base + k * w + i) 0 ≡ cell_mark (cell row i)
+    unfolding cell
+    read-mark i b = held-mark row_here i (omega (arith, row-long))
+
     read : (i : ℕ) → i < w → number_or_none (cell_of cells marks (base + k * w + i)) ≡ cell_value (cell row i)
     unfolding cell_of cell
     read i b = same_value (cell_from (get_or cells (base + k * w + i) (pos 0)) (get_or marks (base + k * w + i) 0)) ∙ ap cell_value (sym (cells_at cells marks (base + k * w) w i b))

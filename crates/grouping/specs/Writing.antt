@@ -203,7 +203,7 @@ module _ {s : List ℕ} {at : ℕ} {cells : List ℤ} {marks : List ℕ} {base n
       let k : i < byte s (at + 1) = omega (arith, columns-many) in
       rw (columns_at s (at + 3) (byte s (at + 1)) i k) (r.narrow i k)
 
-  key-room : PickRoom cells marks (At (key_place (columns_from s at) base)) to (length (columns_from s at))
+  pub key-room : PickRoom cells marks (At (key_place (columns_from s at) base)) to (length (columns_from s at))
   key-room = record {
     below = λ i k l g. omega (arith, g, columns-narrow i l, one-row, r.above);
     cells_to = omega (arith, columns-many, r.run.cells-room);
@@ -222,7 +222,7 @@ module _ {s : List ℕ} {at : ℕ} {cells : List ℤ} {marks : List ℕ} {base n
     same_rows : rows_from cells₁ marks₁ w base n ≡ rows_from cells marks w base n
     same_rows = rows_same n r.run.held (picked_untouched p) r.above
 
-    answers-room : CellsRoom s (at + 3 + byte s (at + 1)) (byte s (at + 2)) cells₁ marks₁ base n w (to + byte s (at + 1)) (to + byte s (at + 1) + byte s (at + 2))
+    pub answers-room : CellsRoom s (at + 3 + byte s (at + 1)) (byte s (at + 2)) cells₁ marks₁ base n w (to + byte s (at + 1)) (to + byte s (at + 1) + byte s (at + 2))
     answers-room = record {
       each = λ j l. rw same_rows (r.each j l);
       run = run-stays r.run (picked_untouched p) r.above;
@@ -230,7 +230,7 @@ module _ {s : List ℕ} {at : ℕ} {cells : List ℤ} {marks : List ℕ} {base n
       before = omega arith;
     }
 
-    row_done : {cells₂ : List ℤ} {marks₂ : List ℕ}
+    pub row_done : {cells₂ : List ℤ} {marks₂ : List ℕ}
         → CellsDone s (at + 3 + byte s (at + 1)) (byte s (at + 2)) cells₁ marks₁ cells₂ marks₂ base n w (to + byte s (at + 1)) (to + byte s (at + 1) + byte s (at + 2))
         → RowDone s at cells marks cells₂ marks₂ base n w to
     unfolding group_row
