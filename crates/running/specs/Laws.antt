@@ -1,5 +1,6 @@
 -- What a caller knows of a running aggregate: which values a state has taken, what it then answers, and that its numbers stay small.
 use Rattle.std.specs.Prelude.{◌≡◌, refl, Bool, true, false, List, [], ◌∷◌, ◌++◌, ◌≤◌, ◌<◌, ◌^◌, ℤ, Option, Some, None}
+use Rattle.std.specs.Option.{is_some}
 use Rattle.std.proofs.Common.{sym, ◌∙◌, subst, subst₂, append-nil, arith}
 use Rattle.meaning.specs.Cells.{Cell}
 use Rattle.meaning.specs.Plans.{Row, Name, Rows, Count, Sum, Least, Greatest, DistinctSum, DistinctCount, WeightedSum, WeightedCount, Aggregate, name_of}
@@ -13,7 +14,7 @@ use Rattle.running.specs.States.{repeats_of, amount_of, start_of, value_of, take
 use Rattle.running.specs.Names.{called, is_distinct}
 use Rattle.running.specs.Steps.{last_in, repeats_distinct, repeats_yes, repeats_no, add_not-taken, add_repeated, add_taken, merge_none, merge_some}
 use Rattle.running.specs.Ascent.{upwards, last_if, last_more}
-use Rattle.running.specs.Values.{Rises, made_if, answer-both, answer_new, answer-same}
+use Rattle.running.specs.Values.{is_any, Rises, made_if, made_any, answer-both, answer_new, answer-same}
 use Rattle.running.specs.Rows.{taken_by, v_cell, c_cell, taken-by, cell_value, Gives, nothing, one, gives, given_size}
 use Rattle.running.specs.Sizes.{most_of, most-append, held_size}
 
@@ -24,6 +25,10 @@ pub record Took (n : Name) (xs : List ℤ) (st : Running) : Type 0 where
   pub holds : value_of st ≡ made_if n xs
   pub ends : is_distinct n ≡ true → last_in st.taken ≡ last_if xs
   pub rises : Rises n xs
+
+-- it has taken something where there is a value
+pub took_any : {n : Name} {xs : List ℤ} {st : Running} → Took n xs st → is_some (value_of st) ≡ is_any xs
+took_any {n} {xs} t = rw t.holds (made_any n xs)
 
 -- the state after a row with these cells v and c
 abbrev pub add_cells : Running → Cell → Cell → Running

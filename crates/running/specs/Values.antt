@@ -1,5 +1,6 @@
 -- What an aggregate makes and answers of values that come after others.
 use Rattle.std.specs.Prelude.{◌≡◌, refl, Bool, true, false, cond, List, [], ◌∷◌, ◌++◌, length, ℤ, pos, ◌+ℤ◌, Option, Some, None}
+use Rattle.std.specs.Option.{is_some}
 use Rattle.std.proofs.Common.{sym, ap, ◌∙◌, length-append}
 use Rattle.std.proofs.Math.IntN.{+ℤ_idl, +ℤ_assoc}
 use Rattle.std.specs.Int.Signed.{lt_z}
@@ -11,6 +12,16 @@ use Rattle.meaning.specs.Running.{cell_number}
 use Rattle.running.specs.States.{distinct_of, combine_of, combine_if}
 use Rattle.running.specs.Names.{called, is_distinct}
 use Rattle.running.specs.Ascent.{upwards_from, upwards, last_from, last_if, upwards-front, upwards-last, ascending_new, ascending-same}
+
+-- whether there is a value
+unfoldable pub is_any : List ℤ → Bool
+is_any [] = false
+is_any (x ∷ xs) = true
+
+pub any-more : (xs : List ℤ) (y : ℤ) (ys : List ℤ) → is_any (xs ++ y ∷ ys) ≡ true
+unfolding is_any
+any-more [] y ys = refl
+any-more (x ∷ xs) y ys = refl
 
 -- "a distinct one with its values ascending"; neighbours may be equal
 abbrev pub Rises : Name → List ℤ → Type 0
@@ -123,6 +134,11 @@ made-same WeightedCount x xs z d e = cc
 unfoldable pub made_if : Name → List ℤ → Option ℤ
 made_if n [] = None
 made_if n (x ∷ xs) = Some (made_of n x xs)
+
+pub made_any : (n : Name) (xs : List ℤ) → is_some (made_if n xs) ≡ is_any xs
+unfolding made_if is_any
+made_any n [] = refl
+made_any n (x ∷ xs) = refl
 
 -- what is made of values after others: unless distinct, that of the values before combined with what is made of these
 pub answer-both : (n : Name) (xs : List ℤ) (y : ℤ) (ys : List ℤ) → is_distinct n ≡ false
