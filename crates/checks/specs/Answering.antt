@@ -82,6 +82,12 @@ module _ (s : List ℕ) (b : Bytes s) (h : Shape) (e : Some h ≡ shape_of s) wh
       let c : leb (leaves p.plan) 3 ≡ false = lt-leb (leaves p.plan) 3 (omega (arith, p.tables)) in
       for_root p.plan p.string (sym (check_tree p.plan ∙ rw (a, c))) tt
 
+  pub root-nodes : 12 < h.nodes → RootOf s (Err Limits)
+  root-nodes l = root_large (inl l)
+
+  pub root-leaves : h.nodes ≤ 12 → 3 < h.leaves → RootOf s (Err Limits)
+  root-leaves n l = root_large (inr (n, l))
+
   -- a string with a shape has a root, and the plan stands in it
   pub root-some : 0 < h.nodes
   root-some = let p : Planned s h = planned in omega (arith, p.many, nodes-some p.plan)
