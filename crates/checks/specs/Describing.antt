@@ -1,5 +1,5 @@
 -- What the check knows of a node: the number, width, place and kinds of the subtree whose root it is.
-use Rattle.std.specs.Prelude.{◌≡◌, true, List, [], ◌∷◌, map, ℕ, ◌+◌, ◌*◌, ◌-◌, ◌<◌, ◌≤◌, take}
+use Rattle.std.specs.Prelude.{◌≡◌, true, List, [], ◌∷◌, map, ℕ, ◌+◌, ◌*◌, ◌-◌, ◌<◌, ◌≤◌, get_or, take}
 use Rattle.std.proofs.Common.{sym, ap, ◌∙◌, lit<, arith}
 use Rattle.std.proofs.Math.Path.{subst}
 use Rattle.std.proofs.Math.ListN.{length}
@@ -14,6 +14,7 @@ use Rattle.node_bytes.specs.Words.{Bytes}
 use Rattle.node_bytes.specs.Nodes.{byte, join_size, group_size}
 use Rattle.arrangement.proofs.Roots.{kind-some, kind_no_group, join-number, join-long, group-number, group-columns, group_aggregates, group-long}
 use Rattle.arrangement.proofs.Building.{join-some, group-some}
+use Rattle.shapes.specs.declared.Nodes.{Nodes}
 use Rattle.shapes.specs.Shapes.{start_of}
 use Rattle.node_checks.specs.Weights.{kind_number}
 use Rattle.checks.specs.Verdicts.{tree_number}
@@ -92,6 +93,10 @@ pub group_no_table : (s : List ℕ) (at : ℕ) (cols : List ℕ) (aggs : List Ag
 group_no_table s at cols aggs h e = let q : byte s at ≡ 4 = group-number s at cols aggs h in omega arith
 
 -- ---- what the code may use at the n-th node, which starts at a place
+
+-- it is the place that stands beside the string
+pub here_is : (ns : Nodes) {n : ℕ} → Standing ns.bytes.now n → get_or ns.starts n 0 ≡ start_of ns.bytes.now n
+here_is ns {n} c = ns.placed n c.few
 
 module _ {s : List ℕ} {n at : ℕ} (c : Standing s n) (here : at ≡ start_of s n) where
   -- the root has at least three bytes
