@@ -4,9 +4,10 @@ use Rattle.std.specs.Option.{is_some}
 use Rattle.std.proofs.Common.{sym, ap, ◌∙◌, length-append}
 use Rattle.std.proofs.Math.IntN.{+ℤ_idl, +ℤ_assoc}
 use Rattle.std.specs.Int.Signed.{lt_z}
+use Rattle.meaning.specs.Cells.{num}
 use Rattle.meaning.specs.Plans.{Name, Rows, Count, Sum, Least, Greatest, DistinctSum, DistinctCount, WeightedSum, WeightedCount}
 use Rattle.meaning.specs.Rules.{rule}
-use Rattle.meaning.specs.Aggregating.{total, smallest, largest, into, ascending, made_of}
+use Rattle.meaning.specs.Aggregating.{total, smallest, largest, into, ascending, made_of, answer}
 use Rattle.numbers.specs.Integers.{lt_trans, nlt_trans, nlt_antisym}
 use Rattle.meaning.specs.Running.{cell_number}
 use Rattle.running.specs.States.{distinct_of, combine_of, combine_if}
@@ -139,6 +140,12 @@ pub made_any : (n : Name) (xs : List ℤ) → is_some (made_if n xs) ≡ is_any 
 unfolding made_if is_any
 made_any n [] = refl
 made_any n (x ∷ xs) = refl
+
+-- and that is the answer over them
+pub answer_made : (n : Name) (xs : List ℤ) {z : ℤ} → made_if n xs ≡ Some z → answer n xs ≡ num z
+unfolding made_if answer
+answer_made n [] e = cc
+answer_made n (x ∷ xs) {z} e = let m : made_of n x xs ≡ z = cc e in ap num m
 
 -- what is made of values after others: unless distinct, that of the values before combined with what is made of these
 pub answer-both : (n : Name) (xs : List ℤ) (y : ℤ) (ys : List ℤ) → is_distinct n ≡ false
