@@ -116,8 +116,13 @@ module _ (s : List ℕ) (b : Bytes s) (h : Shape) (e : Some h ≡ shape_of s) wh
         let c : leb (leaves p.plan) 3 ≡ true = le-leb (leaves p.plan) 3 (omega (arith, p.tables)) in
         root.number ∙ sym (check_tree p.plan ∙ rw (a, c))
 
+    pub root_described : (a : Result Root Refusal) → number_of a ≡ number_if r.refusal
+        → IfOk a (λ (q : Root). (q.nodes ≡ h.nodes) × (q.width ≡ r.width)) → RootOf s a
+    root_described (Ok q) e k = let p : Planned s h = planned in for_root p.plan p.string (e ∙ root_number) (k.0 ∙ p.many, k.1 ∙ root.wide)
+    root_described (Err refusal) e k = let p : Planned s h = planned in for_root p.plan p.string (e ∙ root_number) tt
+
     pub root_refused : {refusal : Refusal} → r.refusal ≡ Some refusal → RootOf s (Err refusal)
-    root_refused e = let p : Planned s h = planned in for_root p.plan p.string (sym (ap number_if e) ∙ root_number) tt
+    root_refused {refusal} e = root_described (Err refusal) (sym (ap number_if e)) tt
 
     pub root_passes : r.refusal ≡ None → RootOf s (Ok (record { nodes = h.nodes; width = r.width }))
-    root_passes e = let p : Planned s h = planned in for_root p.plan p.string (sym (ap number_if e) ∙ root_number) (p.many, root.wide)
+    root_passes e = root_described (Ok (record { nodes = h.nodes; width = r.width })) (sym (ap number_if e)) (refl, refl)
