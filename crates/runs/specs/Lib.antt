@@ -1,5 +1,6 @@
 pub mod Leaves
 pub mod Room
+pub mod Steps
 pub mod Answering
 pub mod Finishing
 pub mod Results
