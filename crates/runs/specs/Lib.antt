@@ -1,6 +1,5 @@
 pub mod Leaves
 pub mod Room
-pub mod Steps
 pub mod Answering
 pub mod Finishing
 pub mod Results
