@@ -32,8 +32,11 @@ pub fn copy_within(cells: &mut [i64], marks: &mut [u8], from: usize, to: usize, 
     requires { Room cells.old marks.old from to n }
     ensures { CopiedWithin cells.old marks.old cells.new marks.new from to n }
 {
-    cells.copy_within(from..from + n, to);
-    marks.copy_within(from..from + n, to);
+    // a row is a few cells, and the library's `copy_within` takes longer to find its way than this to copy them
+    for i in 0..n {
+        cells[to + i] = cells[from + i];
+        marks[to + i] = marks[from + i];
+    }
 }
 
 // Copies n cells and their marks from one area into another; a place and a number serve both, where a caller would cut two slices.
