@@ -51,7 +51,9 @@ fn verdict_of(sofar: Option<Refusal>, within: bool, columns: bool, weights: bool
     }
 }
 
-// A table, the n-th node: its columns are plain.
+// A table, the n-th node: its columns are plain. It is out of line, so that its frame is no part of `describe`'s, which stands
+// once for each level of a plan.
+#[inline(never)]
 fn table_node(n: usize, width: usize) -> Node
     ensures { DescribesTable n width result }
 {
@@ -65,7 +67,8 @@ fn table_node(n: usize, width: usize) -> Node
     }
 }
 
-// A join above its inputs.
+// A join above its inputs; out of line as a table is.
+#[inline(never)]
 fn join_node(s: &[u8], at: usize, l: Node, r: Node) -> Node
     requires { (at + join_size s.now at ≤ length s.now) × ((l.width < 65536) × (r.width < 65536)) }
     ensures { DescribesJoin s.now at l r result }
@@ -83,7 +86,8 @@ fn join_node(s: &[u8], at: usize, l: Node, r: Node) -> Node
     }
 }
 
-// A grouping above its input.
+// A grouping above its input; out of line as a table is.
+#[inline(never)]
 #[tactic(auto, unfolding(node_bytes::specs::Nodes::group_size))]
 fn group_node(s: &[u8], at: usize, i: Node) -> Node
     requires { at + group_size s.now at ≤ length s.now }

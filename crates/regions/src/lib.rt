@@ -61,7 +61,7 @@ pub fn clear<T: Copy>(area: &mut [T], zero: T, n: usize)
     requires { n ≤ length area.old }
     ensures { Cleared zero area.old area.new n }
 {
-    for i in 0..n {
-        area[i] = zero;
+    for at in 0..n {
+        area[at] = zero;
     }
 }

@@ -2,5 +2,5 @@
 use Rattle.regions.specs.Clearing.{Cleared}
 use Rattle.regions.proofs.clear.Given as goal
 
-abbrev pub invariant-loop-i : goal.invariant-loop-i
-invariant-loop-i g l = Cleared l.zero l.initial.area l.area l.i
+abbrev pub invariant-loop-at : goal.invariant-loop-at
+invariant-loop-at g l = Cleared l.zero l.initial.area l.area l.at
