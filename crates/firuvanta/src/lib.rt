@@ -2,8 +2,9 @@
 
 // The doors: the check and the run of a plan's bytes. `firuvanta_c` opens them to C under the same names.
 ghost use Rattle.meaning.specs.Check.{Checks};
-ghost use Rattle.meaning.specs.Running.{Runs, lent_of, areas_of, answered};
+ghost use Rattle.meaning.specs.Running.{Runs, areas_of, answered};
 ghost use Rattle.refusals.specs.Numbers.{number_of, count_of};
+ghost use Rattle.tables.specs.Lending.{lent_by};
 
 use refusals::Refusal;
 use tables::Lent;
@@ -25,7 +26,7 @@ pub fn firuvanta_run(
     res: &mut [i64],
     result_marks: &mut [u8],
 ) -> Result<usize, Refusal>
-    ensures { Runs (lent_of lent.entry.tables.now lent.entry.cells.now lent.entry.marks.now) limit (areas_of work.old work_marks.old res.old result_marks.old) plan.now (answered (number_of result) (count_of result) (areas_of work.new work_marks.new res.new result_marks.new)) }
+    ensures { Runs (lent_by lent.entry) limit (areas_of work.old work_marks.old res.old result_marks.old) plan.now (answered (number_of result) (count_of result) (areas_of work.new work_marks.new res.new result_marks.new)) }
 {
     runs::run(plan, lent, limit, work, work_marks, res, result_marks)
 }

@@ -2,8 +2,9 @@
 
 // Tables in lent memory: whether one that a plan names is right.
 ghost use Rattle.std.specs.Prelude.{◌≡◌, ◌+◌, ◌*◌, ◌<◌, ◌≤◌, length};
-ghost use Rattle.meaning.specs.Running.{lent_of, cell_right, cells_right, place_right};
+ghost use Rattle.meaning.specs.Running.{cell_right, cells_right, place_right};
 ghost use Rattle.tables.specs.Places.{inside_at, place_of, table_right};
+ghost use Rattle.tables.specs.Lending.{lent_by};
 
 /// What is lent to a run: the list of tables, three numbers a table, its width, rows and start, and the run of cells with a mark a cell.
 #[derive(Clone, Copy)]
@@ -48,7 +49,7 @@ fn inside(start: usize, n: usize, cells: usize, marks: usize) -> bool
 #[tactic(auto, using(crate::proofs::Tests::table_tests))]
 fn place_right(place: [usize; 3], lent: Lent, width: usize) -> bool
     requires { width < 256 }
-    ensures { result ≡ place_right (lent_of lent.entry.tables.now lent.entry.cells.now lent.entry.marks.now) width (place_of place) }
+    ensures { result ≡ place_right (lent_by lent.entry) width (place_of place) }
 {
     let [wide, rows, start] = place;
     if wide != width || 1024 < rows {
