@@ -2,11 +2,10 @@
 use Rattle.std.specs.Prelude.{◌≡◌, ℕ, zero, suc, ◌+◌, ◌-◌, ◌*◌, ◌<◌, ◌≤◌, ◌^◌, length, get_or, ℤ, pos, Option}
 use Rattle.std.proofs.Math.Path.{refl, sym, ap}
 use Rattle.std.proofs.Common.{subst, ◌∙◌, arith, List, [], ◌∷◌, ◌++◌, append_assoc, append-nil}
-use Rattle.meaning.specs.Cells.{Cell, null, num}
 use Rattle.meaning.specs.Plans.{Row, Table, Name, Aggregate, name_of, columns_read}
 use Rattle.meaning.specs.Joining.{cell}
 use Rattle.meaning.specs.Aggregating.{values_of}
-use Rattle.meaning.specs.Running.{cell_from, cells_from, rows_from, cell_number, cell_mark}
+use Rattle.meaning.specs.Running.{cells_from, rows_from, cell_number, cell_mark}
 use Rattle.meaning.proofs.Widths.{cells-long, rows_long}
 use Rattle.arrangement.proofs.Items.{number-name}
 use Rattle.rules.specs.Lines.{name_at}
@@ -17,7 +16,7 @@ use Rattle.running.specs.declared.Running.{Running}
 use Rattle.running.specs.States.{add_to, start_of, Room}
 use Rattle.running.specs.Names.{called, named_called}
 use Rattle.running.specs.Values.{Rises, rises-front}
-use Rattle.running.specs.Rows.{taken_by, taken-by, cell_value}
+use Rattle.running.specs.Rows.{taken_by, taken-by}
 use Rattle.running.specs.Sizes.{most_of, most-append}
 use Rattle.running.specs.Laws.{Took, took_none, took_cells, took_room-cells}
 
@@ -61,12 +60,6 @@ rows_append cs ms w at (suc n) k =
 rows-one : (cs : List ℤ) (ms : List ℕ) (w at : ℕ) → rows_from cs ms w at 1 ≡ cells_from cs ms at w ∷ []
 unfolding rows_from
 rows-one cs ms w at = refl
-
--- a cell as the area's code reads it is that of a running aggregate
-same_value : (x : Cell) → number_or_none x ≡ cell_value x
-unfolding number_or_none cell_value
-same_value null = refl
-same_value (num z) = refl
 
 -- what the code calls a known name
 pub known-called : (name : ℕ) → name < 9 → named name ≡ called (name_at name)
@@ -141,9 +134,9 @@ module _ {name v c : ℕ} {cells : List ℤ} {marks : List ℕ} {base rows w : �
     unfolding cell
     read-mark i b = held-mark row_here i (omega (arith, row-long))
 
-    read : (i : ℕ) → i < w → number_or_none (cell_of cells marks (base + k * w + i)) ≡ cell_value (cell row i)
+    read : (i : ℕ) → i < w → number_or_none (cell_of cells marks (base + k * w + i)) ≡ number_or_none (cell row i)
     unfolding cell_of cell
-    read i b = same_value (cell_from (get_or cells (base + k * w + i) (pos 0)) (get_or marks (base + k * w + i) 0)) ∙ ap cell_value (sym (cells_at cells marks (base + k * w) w i b))
+    read i b = ap number_or_none (sym (cells_at cells marks (base + k * w) w i b))
 
     -- one row more
     module _ {st : Running} (t : Fed name v c cells marks base k w st) {x y : Option ℤ}

@@ -27,7 +27,8 @@ use Rattle.running.specs.States.{distinct_of, finish_of}
 use Rattle.running.specs.Ascent.{upwards_from, upwards}
 use Rattle.running.specs.Names.{called, named_called, is_distinct}
 use Rattle.running.specs.Values.{Rises}
-use Rattle.running.specs.Rows.{cell_value, Gives, nothing, one, gives}
+use Rattle.regions.specs.Reading.{number_or_none}
+use Rattle.running.specs.Rows.{Gives, nothing, one, gives}
 use Rattle.running.specs.Sizes.{most_of}
 use Rattle.running.specs.Laws.{Took, took_finish}
 use Rattle.sorting.specs.Sorting.{SortOf, SortRoom, SortDone}
@@ -84,7 +85,7 @@ pub record StateRoom (s : List ℕ) (at : ℕ) (cells : List ℤ) (marks : List 
 
 -- the state answers this cell
 abbrev pub AnswersCell : Running → Cell → Type 0
-AnswersCell st x = finish_of st ≡ cell_value x
+AnswersCell st x = finish_of st ≡ number_or_none x
 
 pub record StateDone (s : List ℕ) (at : ℕ) (cells : List ℤ) (marks : List ℕ) (cells' : List ℤ) (marks' : List ℕ) (base n w scratch : ℕ) (st : Running) : Type 0 where
   pub kept : Untouched cells marks cells' marks' scratch (scratch + scratch_for n)

@@ -19,7 +19,7 @@ use Rattle.regions.specs.Holding.{Held, Untouched, held_both, held_to, held_belo
 use Rattle.sorting.specs.Columns.{columns-long, columns_at}
 use Rattle.running.specs.declared.Running.{Running}
 use Rattle.running.specs.States.{finish_of}
-use Rattle.running.specs.Rows.{cell_value}
+use Rattle.regions.specs.Reading.{number_or_none}
 use Rattle.regions.specs.Rows.{untouched_then, untouched_wider, rows_stay, rows_same}
 use Rattle.grouping.specs.Picking.{PickRoom, PickDone, At, key_place, key-held, key-long, picked_untouched}
 use Rattle.grouping.specs.Single.{scratch_for, AggregateFits, RunRoom, StateRoom, StateDone}
@@ -49,13 +49,13 @@ mark-null None false f g e = cc
 mark-null (Some z) true f g e = cc
 mark-null (Some z) false f g e = g refl
 
-value_number : (x : Cell) → unwrap_or (cell_value x) (pos 0) ≡ cell_number x
-unfolding cell_value cell_number
+value_number : (x : Cell) → unwrap_or (number_or_none x) (pos 0) ≡ cell_number x
+unfolding number_or_none cell_number
 value_number null = refl
 value_number (num z) = refl
 
-value_mark : (x : Cell) → null_mark (cell_value x) ≡ cell_mark x
-unfolding cell_value cell_mark
+value_mark : (x : Cell) → null_mark (number_or_none x) ≡ cell_mark x
+unfolding number_or_none cell_mark
 value_mark null = refl
 value_mark (num z) = refl
 

@@ -8,6 +8,7 @@ use Rattle.meaning.specs.Rules.{rule}
 use Rattle.meaning.specs.Aggregating.{taken, made_of, answer}
 use Rattle.rules.specs.Lines.{entry_of, line_of, name_at, names, is_null}
 use Rattle.numbers.specs.Integers.{false_true}
+use Rattle.regions.specs.Reading.{number_or_none}
 use Rattle.running.specs.declared.Running.{Running}
 use Rattle.running.specs.declared.Taken.{Taken}
 use Rattle.running.specs.States.{repeats_of, amount_of, start_of, value_of, take_of, add_to, size_if, Room, merge_of, RoomForBoth, empty_of, finish_of}
@@ -15,7 +16,7 @@ use Rattle.running.specs.Names.{called, is_distinct}
 use Rattle.running.specs.Steps.{last_in, repeats_distinct, repeats_yes, repeats_no, add_not-taken, add_repeated, add_taken, merge_none, merge_some}
 use Rattle.running.specs.Ascent.{upwards, last_if, last_more}
 use Rattle.running.specs.Values.{is_any, Rises, made_if, made_any, answer-both, answer_new, answer-same}
-use Rattle.running.specs.Rows.{taken_by, v_cell, c_cell, taken-by, cell_value, Gives, nothing, one, gives, given_size}
+use Rattle.running.specs.Rows.{taken_by, v_cell, c_cell, taken-by, Gives, nothing, one, gives, given_size}
 use Rattle.running.specs.Sizes.{most_of, most-append, held_size}
 
 -- This state has taken these values, in this order. It holds what is made of them, nothing where there is none; a distinct one's
@@ -32,11 +33,11 @@ took_any {n} {xs} t = rw t.holds (made_any n xs)
 
 -- the state after a row with these cells v and c
 abbrev pub add_cells : Running → Cell → Cell → Running
-add_cells st p q = add_to st (cell_value p) (cell_value q)
+add_cells st p q = add_to st (number_or_none p) (number_or_none q)
 
 -- there is room for a row with these cells
 abbrev pub RoomForCells : Running → Cell → Cell → Type 0
-RoomForCells st p q = Room st (cell_value p) (cell_value q)
+RoomForCells st p q = Room st (number_or_none p) (number_or_none q)
 
 -- one row: the state as it was, as it was though the last value came again, or with one value more
 module _ {n : Name} {xs : List ℤ} {st : Running} (t : Took n xs st) (v c : Option ℤ) where
@@ -83,7 +84,7 @@ took_none n = record { named = refl; holds = refl; ends = λ d. refl; rises = λ
 -- after one row, given by its cells v and c, the state has taken that row's values too
 pub took_cells : {n : Name} {xs : List ℤ} {st : Running} → Took n xs st → (p q : Cell) → Rises n (xs ++ taken_by n p q)
     → Took n (xs ++ taken_by n p q) (add_cells st p q)
-took_cells {n} t p q h = took_given t (cell_value p) (cell_value q) (gives n p q) h
+took_cells {n} t p q h = took_given t (number_or_none p) (number_or_none q) (gives n p q) h
 
 -- the same for a row of an aggregate
 pub took_add : (a : Aggregate) (r : Row) {xs : List ℤ} {st : Running} → Took (name_of a) xs st → Rises (name_of a) (xs ++ taken a r)
@@ -127,8 +128,8 @@ took_merge {ys = []} d t u = merge_nothing d t u
 took_merge {ys = y ∷ ys} d t u = merge_any y ys d t u
 
 -- the rule table's answer with no value is that cell
-empty-cell : (n : Name) → empty_of (called n) ≡ cell_value (rule n).no_value
-unfolding empty_of entry_of line_of name_at names is_null called rule cell_value
+empty-cell : (n : Name) → empty_of (called n) ≡ number_or_none (rule n).no_value
+unfolding empty_of entry_of line_of name_at names is_null called rule number_or_none
 empty-cell Rows = refl
 empty-cell Count = refl
 empty-cell Sum = refl
@@ -140,8 +141,8 @@ empty-cell WeightedSum = refl
 empty-cell WeightedCount = refl
 
 -- the finished cell is that of the answer over the values taken
-pub took_finish : {n : Name} {xs : List ℤ} {st : Running} → Took n xs st → finish_of st ≡ cell_value (answer n xs)
-unfolding finish_of made_if answer cell_value
+pub took_finish : {n : Name} {xs : List ℤ} {st : Running} → Took n xs st → finish_of st ≡ number_or_none (answer n xs)
+unfolding finish_of made_if answer number_or_none
 took_finish {n} {xs = []} t = rw (t.holds, t.named) (empty-cell n)
 took_finish {xs = x ∷ xs} t = rw t.holds
 
@@ -153,7 +154,7 @@ took_size {n} {xs} t = rw t.holds (held_size n xs)
 pub took_room-cells : {n : Name} {xs : List ℤ} {st : Running} → Took n xs st → (p q : Cell) → most_of n (xs ++ taken_by n p q) < 2 ^ 63
     → RoomForCells st p q
 took_room-cells {n} {xs} {st} t p q h =
-    let g : size_if (amount_of st.name (cell_value p) (cell_value q)) ≤ most_of n (taken_by n p q) = rw t.named (given_size (gives n p q)) in
+    let g : size_if (amount_of st.name (number_or_none p) (number_or_none q)) ≤ most_of n (taken_by n p q) = rw t.named (given_size (gives n p q)) in
     record { small = omega (arith, took_size t, g, most-append n xs (taken_by n p q)) }
 
 -- what `merge` requires, from a bound on the values of both

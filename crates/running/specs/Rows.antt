@@ -7,6 +7,7 @@ use Rattle.meaning.specs.Plans.{Row, Table, Name, Rows, Count, Sum, Least, Great
 use Rattle.meaning.specs.Joining.{cell}
 use Rattle.meaning.specs.Aggregating.{value, product, weight_of, taken, values_of, total, smallest, largest, into, ascending, made_of}
 use Rattle.numbers.specs.Integers.{false_true}
+use Rattle.regions.specs.Reading.{number_or_none}
 use Rattle.running.specs.States.{distinct_of, product_if, amount_of, size_if}
 use Rattle.running.specs.Names.{called, is_distinct}
 use Rattle.running.specs.Sizes.{most_of, made-size}
@@ -42,18 +43,13 @@ taken-by (distinct_count v) r = refl
 taken-by (weighted_sum v c) r = refl
 taken-by (weighted_count v c) r = refl
 
--- a cell as the code reads it: the number, none for null
-unfoldable pub cell_value : Cell → Option ℤ
-cell_value null = None
-cell_value (num z) = Some z
-
 -- a row of these cells gives no value, or the one value z
 pub data Gives (n : Name) (v c : Option ℤ) : List ℤ → Type 0 where
   nothing : amount_of (called n) v c ≡ None → Gives n v c []
   one : (z : ℤ) → amount_of (called n) v c ≡ Some (made_of n z []) → (is_distinct n ≡ true → v ≡ Some z) → Gives n v c (z ∷ [])
 
-pub gives : (n : Name) (p q : Cell) → Gives n (cell_value p) (cell_value q) (taken_by n p q)
-unfolding taken_by value product weight_of cell_value amount_of product_if made_of total smallest largest ascending into called distinct_of
+pub gives : (n : Name) (p q : Cell) → Gives n (number_or_none p) (number_or_none q) (taken_by n p q)
+unfolding taken_by value product weight_of number_or_none amount_of product_if made_of total smallest largest ascending into called distinct_of
 gives Rows p q = one (pos 1) refl false_true
 gives Count null q = nothing refl
 gives Count (num v) q = one v refl (λ d. refl)
