@@ -2,6 +2,7 @@
 
 // Refusals 2, 3 and 4 at one node of a byte string, and the kinds of its columns. Kinds are 0 for plain and 1 for weight, 16 at the most:
 // numbers, since what is promised here holds of any sixteen bytes; and the left width of the join below is 0 where none is below, as in `left_width`.
+// A node is named by its string and its place in it, as the definitions name it.
 ghost use Rattle.std.specs.Prelude.{◌≡◌, ◌+◌, ◌*◌, ◌<◌, ◌≤◌, ltb, length, get_or};
 ghost use Rattle.std.specs.List.{list_all};
 ghost use Rattle.meaning.specs.Limits.{up_to};

@@ -1,6 +1,7 @@
 #![tactic(auto)]
 
 // Rows in a lent area of cells and marks: where they stand, how they are copied, and how an area is cleared.
+// Cells and marks are two parameters: a struct of two `&mut` would add to each contract that it still holds the same two.
 ghost use Rattle.std.specs.Prelude.{◌≡◌, ◌≤◌, length};
 ghost use Rattle.regions.specs.Reading.{CellIn, cell_of, number_or_none};
 ghost use Rattle.regions.specs.Copying.{Room, CopiedWithin, RoomIn, CopiedIn};
