@@ -1,6 +1,7 @@
 #![tactic(auto)]
 
 // The check of a plan: refusals 1 to 4, in that order over the whole plan.
+// A node is named by its string and its place in it, as the definitions name it.
 ghost use Rattle.std.specs.Prelude.{◌≡◌, ◌+◌, ◌<◌, ◌≤◌, length};
 ghost use Rattle.meaning.specs.Check.{Checks};
 ghost use Rattle.refusals.specs.Numbers.{number_if, number_of};

@@ -1,6 +1,7 @@
 #![tactic(auto)]
 
 // The doors: the check and the run of a plan's bytes. `firuvanta_c` opens them to C under the same names.
+// An area's cells and marks are two parameters, as in `regions`.
 ghost use Rattle.meaning.specs.Check.{Checks};
 ghost use Rattle.meaning.specs.Running.{Runs, areas_of, answered};
 ghost use Rattle.refusals.specs.Numbers.{number_of, count_of};

@@ -1,6 +1,9 @@
 #![tactic(auto)]
 
 // The rows of a grouping, from its input's rows in a lent area.
+// A node is named by its string and its place in it, as the definitions name it.
+// An area's cells and marks are two parameters, as in `regions`.
+// The definitions take the place, the count and the width of rows as three numbers.
 ghost use Rattle.std.specs.Prelude.{◌≡◌, ℕ, ◌+◌, ◌<◌, ◌≤◌, length};
 ghost use Rattle.meaning.specs.Running.{rows_from};
 ghost use Rattle.node_bytes.specs.Nodes.{byte};
@@ -38,7 +41,7 @@ fn key_columns(s: &[u8], at: usize) -> &[u8]
     &s[at + 3..at + 3 + n]
 }
 
-// The state of an aggregate that has taken the rows, by its number and its columns v and c.
+// The state of an aggregate that has taken the rows, by its number, as `Running::new` takes it, and its columns v and c.
 fn feed(name: u8, v: usize, c: usize, cells: &[i64], marks: &[u8], rows: Rows) -> Running
     requires { FeedRoom name v c cells.now marks.now rows.at rows.count rows.width }
     ensures { Fed name v c cells.now marks.now rows.at rows.count rows.width result }
@@ -54,7 +57,7 @@ fn feed(name: u8, v: usize, c: usize, cells: &[i64], marks: &[u8], rows: Rows) -
     state
 }
 
-// Whether an aggregate wants its values ascending: a distinct one, over more than one row.
+// Whether an aggregate wants its values ascending, by its number: a distinct one, over more than one row.
 #[tactic(auto, unfolding(crate::specs::Single::needs_order))]
 fn needs_order(name: u8, rows: usize) -> bool
     ensures { result ≡ needs_order name rows }

@@ -2,7 +2,7 @@
 
 // Refusals 2, 3 and 4 at one node of a byte string, and the kinds of its columns. Kinds are 0 for plain and 1 for weight, 16 at the most:
 // numbers, since what is promised here holds of any sixteen bytes; and the left width of the join below is 0 where none is below, as in `left_width`.
-// A node is named by its string and its place in it, as the definitions name it.
+// A node is named by its string and its place in it, as the definitions name it; n pairs, defaults or aggregates by the place of the first.
 ghost use Rattle.std.specs.Prelude.{◌≡◌, ◌+◌, ◌*◌, ◌<◌, ◌≤◌, ltb, length, get_or};
 ghost use Rattle.std.specs.List.{list_all};
 ghost use Rattle.meaning.specs.Limits.{up_to};
@@ -63,7 +63,7 @@ fn reads_there(s: &[u8], from: usize, n: usize, w: usize) -> bool
     (0..n).all(|i| read_there(s, from + 3 * i, w))
 }
 
-// Whether a default is null, or in the range of its kind.
+// Whether a default is null, or in the range of its kind. The mark is a byte here, which was tested to be 0 or 1 before.
 #[tactic(auto, unfolding(crate::specs::Weights::default_at))]
 fn default_right(s: &[u8], at: usize, kind: u8) -> bool
     requires { at + 9 ≤ length s.now }

@@ -15,7 +15,7 @@ pub struct Rows {
     pub width: usize,
 }
 
-// The number of the cell at a place, None for null.
+// The number of the cell at a place, None for null: the byte of its mark is read here.
 #[tactic(auto, unfolding(crate::specs::Reading::cell_of, crate::specs::Reading::number_or_none, meaning::specs::Running::cell_from))]
 pub fn cell_at(cells: &[i64], marks: &[u8], at: usize) -> Option<i64>
     requires { CellIn cells.now marks.now at }
@@ -28,7 +28,7 @@ pub fn cell_at(cells: &[i64], marks: &[u8], at: usize) -> Option<i64>
     }
 }
 
-// Copies n cells and their marks to another place of the same area; the places lie apart.
+// Copies n cells and their marks to another place of the same area; the places lie apart. A caller could not lend the area twice to `copy_into`.
 pub fn copy_within(cells: &mut [i64], marks: &mut [u8], from: usize, to: usize, n: usize)
     requires { Room cells.old marks.old from to n }
     ensures { CopiedWithin cells.old marks.old cells.new marks.new from to n }

@@ -61,7 +61,7 @@ pub const KIND: usize = 2;
 
 // A line for each aggregate, in the order of its number: the columns that it reads; its answer with no value, 0 or null (1);
 // its kind, v's (0) or weight (1); its partial, its final and its other-side form, each an aggregate's number or 9 for none.
-// The entries of a line say different things, so all are numbers: the table is a constant table of tables, and `entry` gives what it holds.
+// The entries of a line say different things, so all are numbers: the scope names the form, a constant table of tables, and `entry` gives what it holds.
 const RULES: [[u8; 6]; 9] = [
     [0, 0, 1, 0, 2, 9],
     [1, 0, 1, 1, 2, 8],

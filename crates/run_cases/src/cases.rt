@@ -120,7 +120,7 @@ impl Case {
         let mut work_marks = [FILL_MARK; MOST_WORK];
         let mut res = [FILL; MOST_RESULT];
         let mut result_marks = [FILL_MARK; MOST_RESULT];
-        // with the 0, since the bounds of `..n` at an array did not prove
+        // with the 0: the check does not find the bounds of `..n` where an array is lent as `&mut`
         let work = &mut work[0..self.work.min(MOST_WORK)];
         let work_marks = &mut work_marks[0..self.work_marks.min(MOST_WORK)];
         let res = &mut res[0..self.result.min(MOST_RESULT)];

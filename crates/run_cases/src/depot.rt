@@ -21,7 +21,7 @@ const FIRST_AGGREGATE: usize = 71;
 
 const LIMIT_SUM: usize = 77;
 
-// Places in the list of tables.
+// Places in the list of tables, which is numbers as in `store`.
 const USES: usize = 1;
 
 const RELEASES_WIDTH: usize = 3;

@@ -4,7 +4,7 @@ ghost use Rattle.meaning.specs.Arrangement.{zigzag};
 
 use crate::front::Front;
 
-// The kinds of joins, by the byte of their node.
+// The kinds of joins, by the byte of their node. The program writes bytes as docs/ARRANGEMENT.md says, not by what the library reads them with.
 #[derive(Clone, Copy)]
 pub enum Join {
     Inner = 1,

@@ -29,8 +29,7 @@ fn is_distinct(name: Name) -> bool
     matches!(name, Name::DistinctSum | Name::DistinctCount)
 }
 
-/// Whether the number is that of a distinct aggregate.
-// A `Name` in its place would take fewer values.
+/// Whether the number is that of a distinct aggregate; by its number, since a `Name` would take fewer values.
 pub fn distinct(name: u8) -> bool
     ensures { result ≡ distinct_of (named name) }
 {
@@ -78,8 +77,7 @@ fn empty(name: Name) -> Option<i64>
 }
 
 impl Running {
-    /// The state of an aggregate that has taken nothing, by its number.
-    // A `Name` in its place would take fewer values.
+    /// The state of an aggregate that has taken nothing; by its number, since a `Name` would take fewer values.
     #[tactic(auto, unfolding(crate::specs::States::start_of))]
     pub fn new(name: u8) -> Running
         ensures { result ≡ start_of (named name) }

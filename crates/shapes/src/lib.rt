@@ -25,7 +25,7 @@ pub struct Nodes<'a> {
     pub ghost placed: { (k : ℕ) → k < 12 → get_or starts k 0 ≡ start_of bytes.now k },
 }
 
-// Whether the nine bytes from a place on are a default's.
+// Whether the nine bytes from a place on are a default's. The mark is a byte here: this is the test that it is 0 or 1.
 #[tactic(auto, unfolding(node_bytes::specs::Nodes::cell_good))]
 fn cell_good(s: &[u8], at: usize) -> bool
     requires { at + 9 ≤ length s.now }

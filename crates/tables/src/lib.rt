@@ -15,6 +15,7 @@ pub struct Lent<'a> {
 }
 
 // Whether a cell and its mark are a table's: present and in range, or null with number 0.
+// The mark is a byte here: this is the test that it is 0 or 1.
 #[tactic(auto, using(crate::proofs::Tests::cell_tests))]
 fn cell_right(cell: i64, mark: u8) -> bool
     ensures { result ≡ cell_right cell mark }
@@ -26,7 +27,7 @@ fn cell_right(cell: i64, mark: u8) -> bool
     }
 }
 
-// Whether n cells from a place on are a table's.
+// Whether n cells from a place on are a table's. One place and one number serve cells and marks, where two slices would be cut.
 fn cells_right(cells: &[i64], marks: &[u8], from: usize, n: usize) -> bool
     requires { (from + n ≤ length cells.now) × (from + n ≤ length marks.now) }
     ensures { result ≡ cells_right cells.now marks.now from n }
@@ -34,7 +35,7 @@ fn cells_right(cells: &[i64], marks: &[u8], from: usize, n: usize) -> bool
     (0..n).all(|i| cell_right(cells[from + i], marks[from + i]))
 }
 
-// Whether n cells from a place on lie inside runs of these lengths.
+// Whether n cells from a place on lie inside runs of these lengths. Each length is tested once.
 #[tactic(auto, using(crate::specs::Places::ends_inside, crate::specs::Places::ends_outside))]
 fn inside(start: usize, n: usize, cells: usize, marks: usize) -> bool
     ensures { result ≡ inside_at start n cells marks }
@@ -60,7 +61,7 @@ fn place_right(place: [usize; 3], lent: Lent, width: usize) -> bool
             && cells_right(lent.cells, lent.marks, start, width * rows)
 }
 
-// Whether the table of a number is there, has this width and is right.
+// Whether the table of a number is there, has this width and is right. The definition takes the three lists, as the laws of one table do.
 pub fn table_right(lent: Lent, name: usize, width: usize) -> bool
     requires { width < 256 }
     ensures { result ≡ table_right lent.entry.tables.now lent.entry.cells.now lent.entry.marks.now name width }
