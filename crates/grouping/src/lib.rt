@@ -113,6 +113,7 @@ fn write_aggregate(
     ensures { CellDone s.now at cells.old marks.old cells.new marks.new rows.at rows.count rows.width to scratch }
 {
     let (_, answer) = run_state(s, at, cells, marks, rows, scratch).finish();
+    // as in `joining::write_defaults`: a function of the two lines would ask for their room, and answer with two lists
     cells[to] = answer.unwrap_or(0);
     marks[to] = u8::from(answer.is_none());
 }

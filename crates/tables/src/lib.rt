@@ -40,10 +40,9 @@ fn cells_right(cells: &[i64], marks: &[u8], from: usize, n: usize) -> bool
 fn inside(start: usize, n: usize, cells: usize, marks: usize) -> bool
     ensures { result ≡ inside_at start n cells marks }
 {
-    let Some(end) = start.checked_add(n) else {
-        return false;
-    };
-    end <= cells && end <= marks
+    start
+        .checked_add(n)
+        .is_some_and(|end| end <= cells && end <= marks)
 }
 
 // Whether the table whose width, rows and start are at a place has this width and is right.
