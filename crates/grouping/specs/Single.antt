@@ -6,7 +6,7 @@ use Rattle.std.proofs.Math.Bool.{true, false}
 use Rattle.std.proofs.Math.Dec.{ltb}
 use borrow.Author.Tests.{not-true}
 use Rattle.meaning.specs.Cells.{Cell}
-use Rattle.meaning.specs.Plans.{Table, Name, Aggregate, name_of, columns_read}
+use Rattle.meaning.specs.Plans.{Table, Name, Aggregate, rows, count, sum, least, greatest, distinct_sum, distinct_count, weighted_sum, weighted_count, name_of, columns_read}
 use Rattle.meaning.specs.Joining.{cell}
 use Rattle.meaning.specs.Aggregating.{values_of, aggregate}
 use Rattle.meaning.specs.Arrangement.{name_number, two_places, aggregate_bytes}
@@ -21,13 +21,12 @@ use Rattle.node_bytes.specs.Widths.{aggregate-wide}
 use Rattle.node_bytes.specs.Nodes.{byte, aggregate_good}
 use Rattle.arrangement.proofs.Items.{aggregate_at, aggregate-holds}
 use Rattle.regions.specs.Holding.{HeldRows, Untouched}
-use Rattle.regions.specs.Reading.{rows-read}
+use Rattle.regions.specs.Reading.{number_or_none, rows-read}
 use Rattle.running.specs.declared.Running.{Running}
 use Rattle.running.specs.States.{distinct_of, finish_of}
 use Rattle.running.specs.Ascent.{upwards_from, upwards}
 use Rattle.running.specs.Names.{called, named_called, is_distinct}
 use Rattle.running.specs.Values.{Rises}
-use Rattle.regions.specs.Reading.{number_or_none}
 use Rattle.running.specs.Rows.{Gives, nothing, one, gives}
 use Rattle.running.specs.Sizes.{most_of}
 use Rattle.running.specs.Laws.{Took, took_finish}
@@ -139,6 +138,19 @@ module _ (s : List ℕ) (at : ℕ) (inside : at + 3 ≤ length s) (good : aggreg
 
   distinct-here : distinct_of (named (byte s at)) ≡ is_distinct (name_of (aggregate_at s at))
   distinct-here = ap distinct_of called-here
+
+-- a distinct aggregate reads no second column
+pub no_second : (a : Aggregate) → is_distinct (name_of a) ≡ true → get_or (columns_read a) 1 0 ≡ 0
+unfolding name_of called distinct_of columns_read
+no_second rows d = false_true d
+no_second (count v) d = false_true d
+no_second (sum v) d = false_true d
+no_second (least v) d = false_true d
+no_second (greatest v) d = false_true d
+no_second (distinct_sum v) d = refl
+no_second (distinct_count v) d = refl
+no_second (weighted_sum v c) d = false_true d
+no_second (weighted_count v c) d = false_true d
 
 -- the values of one row ascend
 given_up : {n : Name} {v c : Option ℤ} {ys : List ℤ} → Gives n v c ys → upwards (ys ++ []) ≡ true
