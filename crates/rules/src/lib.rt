@@ -3,7 +3,7 @@
 // The rule table of the aggregates, as the code reads it, and their names.
 ghost use Rattle.std.specs.Prelude.{◌≡◌};
 ghost use Rattle.rules.specs.Lines.{entry_of};
-ghost use Rattle.rules.specs.Named.{named};
+ghost use Rattle.rules.specs.Named.{named, number_in};
 
 /// An aggregate's name, in the order of its number.
 #[derive(Clone, Copy, Debug, PartialEq, Eq, PartialOrd, Ord)]
@@ -27,7 +27,7 @@ pub enum Name {
     /// 8
     WeightedCount,
     /// A number from 9 on names none.
-    Other,
+    Other(u8),
 }
 
 impl From<u8> for Name {
@@ -45,7 +45,26 @@ impl From<u8> for Name {
             6 => Name::DistinctCount,
             7 => Name::WeightedSum,
             8 => Name::WeightedCount,
-            _ => Name::Other,
+            _ => Name::Other(number),
+        }
+    }
+}
+
+impl From<Name> for u8 {
+    ghost from_gives = { λ name number. number ≡ number_in name };
+
+    fn from(name: Name) -> u8 {
+        match name {
+            Name::Rows => 0,
+            Name::Count => 1,
+            Name::Sum => 2,
+            Name::Least => 3,
+            Name::Greatest => 4,
+            Name::DistinctSum => 5,
+            Name::DistinctCount => 6,
+            Name::WeightedSum => 7,
+            Name::WeightedCount => 8,
+            Name::Other(number) => number,
         }
     }
 }

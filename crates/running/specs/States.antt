@@ -21,7 +21,7 @@ distinct_of DistinctSum = true
 distinct_of DistinctCount = true
 distinct_of WeightedSum = false
 distinct_of WeightedCount = false
-distinct_of Other = false
+distinct_of (Other n) = false
 
 -- the product of two numbers that are both there
 unfoldable pub product_if : Option ℤ → Option ℤ → Option ℤ
@@ -41,7 +41,7 @@ amount_of DistinctSum v c = v
 amount_of DistinctCount v c = option_map (λ (z : ℤ). pos 1) v
 amount_of WeightedSum v c = product_if v c
 amount_of WeightedCount v c = option_and v c
-amount_of Other v c = option_and c v
+amount_of (Other n) v c = option_and c v
 
 -- the value with one amount more: the less, the greater or the sum of the two
 unfoldable pub combine_of : Name → ℤ → ℤ → ℤ
@@ -54,7 +54,7 @@ combine_of DistinctSum value x = value +ℤ x
 combine_of DistinctCount value x = value +ℤ x
 combine_of WeightedSum value x = value +ℤ x
 combine_of WeightedCount value x = value +ℤ x
-combine_of Other value x = value +ℤ x
+combine_of (Other n) value x = value +ℤ x
 
 -- the first amount is the value itself
 unfoldable pub combine_if : Name → Option ℤ → ℤ → ℤ

@@ -48,7 +48,7 @@ fn amount(name: Name, v: Option<i64>, c: Option<i64>) -> Option<i64>
         Name::Sum | Name::Least | Name::Greatest | Name::DistinctSum => v,
         Name::WeightedSum => Some(v? * c?),
         Name::WeightedCount => v.and(c),
-        Name::Other => c.and(v),
+        Name::Other(_) => c.and(v),
     }
 }
 
@@ -70,7 +70,7 @@ fn combine(name: Name, value: i64, x: i64) -> i64
 fn empty(name: Name) -> Option<i64>
     ensures { result ≡ empty_of name }
 {
-    match rules::entry(name as usize, rules::NO_VALUE) {
+    match rules::entry(usize::from(u8::from(name)), rules::NO_VALUE) {
         0 => Some(0),
         _ => None,
     }

@@ -52,7 +52,7 @@ fn aggregate_good(s: &[u8], at: usize) -> bool
     requires { at + 3 ≤ length s.now }
     ensures { result ≡ aggregate_good s.now at }
 {
-    if Name::from(s[at]) == Name::Other {
+    if let Name::Other(_) = Name::from(s[at]) {
         return false;
     }
     match rules::entry(s[at] as usize, rules::COLUMNS) {
