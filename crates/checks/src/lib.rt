@@ -14,8 +14,8 @@ use node_bytes::Tag;
 use refusals::Refusal;
 use shapes::Nodes;
 
-// What a node's parent needs of it: the refusal of its subtree, its width and kinds, the number of its subtree's first node,
-// and the width of its left input where it is a join, else 0: no Option, since `group_weights` takes the 0.
+// What a node's parent needs of it: the refusal of its subtree, its width and kinds, numbers as `node_checks` takes them, the number of its
+// subtree's first node, and the width of its left input where it is a join, else 0: no Option, since `group_weights` takes the 0.
 #[derive(Drop)]
 struct Node {
     refusal: Option<Refusal>,

@@ -57,7 +57,7 @@ fn feed(name: u8, v: usize, c: usize, cells: &[i64], marks: &[u8], rows: Rows) -
     state
 }
 
-// Whether an aggregate wants its values ascending, by its number: a distinct one, over more than one row.
+// Whether an aggregate wants its values ascending: a distinct one, over more than one row; by its number, as `running::distinct` takes it.
 #[tactic(auto, unfolding(crate::specs::Single::needs_order))]
 fn needs_order(name: u8, rows: usize) -> bool
     ensures { result ≡ needs_order name rows }

@@ -143,7 +143,7 @@ pub fn up_to(most: usize, n: usize) -> bool
     (1..=most).contains(&n)
 }
 
-/// 2 at a join whose inputs are l and r wide.
+/// Whether 2 does not hold at a join whose inputs are l and r wide.
 #[tactic(auto, unfolding(node_bytes::specs::Nodes::join_size, crate::specs::Numbers::join_within_at, meaning::specs::Limits::most_columns, meaning::specs::Limits::most_pairs))]
 pub fn join_within(s: &[u8], at: usize, l: usize, r: usize) -> bool
     requires { (at + join_size s.now at ≤ length s.now) × ((l < 65536) × (r < 65536)) }
@@ -164,7 +164,7 @@ fn counts_right(tag: Tag, lefts: usize, l: usize, rights: usize, r: usize) -> bo
     }
 }
 
-/// 3 at a join whose inputs are l and r wide.
+/// Whether 3 does not hold at a join whose inputs are l and r wide.
 #[tactic(auto, using(crate::specs::Numbers::counts_said), unfolding(node_bytes::specs::Nodes::join_size, crate::specs::Numbers::join_columns_at))]
 pub fn join_columns(s: &[u8], at: usize, l: usize, r: usize) -> bool
     requires { at + join_size s.now at ≤ length s.now }
@@ -175,7 +175,7 @@ pub fn join_columns(s: &[u8], at: usize, l: usize, r: usize) -> bool
         && counts_right(tag, s[at + 2] as usize, l, s[at + 3] as usize, r)
 }
 
-/// 4 at a join whose inputs have these kinds.
+/// Whether 4 does not hold at a join whose inputs have these kinds.
 #[tactic(auto, unfolding(node_bytes::specs::Nodes::join_size, crate::specs::Numbers::join_weights_at))]
 pub fn join_weights(s: &[u8], at: usize, left: &[u8; 16], right: &[u8; 16]) -> bool
     requires { at + join_size s.now at ≤ length s.now }
@@ -199,7 +199,7 @@ pub fn join_kinds(left: [u8; 16], l: usize, right: &[u8; 16], r: usize) -> [u8; 
     out
 }
 
-/// 2 at a grouping.
+/// Whether 2 does not hold at a grouping.
 #[tactic(auto, unfolding(node_bytes::specs::Nodes::group_size, crate::specs::Numbers::group_within_at, meaning::specs::Limits::most_columns))]
 pub fn group_within(s: &[u8], at: usize) -> bool
     requires { at + group_size s.now at ≤ length s.now }
@@ -208,7 +208,7 @@ pub fn group_within(s: &[u8], at: usize) -> bool
     up_to(16, s[at + 1] as usize + s[at + 2] as usize)
 }
 
-/// 3 at a grouping over w columns.
+/// Whether 3 does not hold at a grouping over w columns.
 #[tactic(auto, using(crate::specs::Steps::group_columns_parted), unfolding(node_bytes::specs::Nodes::group_size))]
 pub fn group_columns(s: &[u8], at: usize, w: usize) -> bool
     requires { at + group_size s.now at ≤ length s.now }
@@ -221,7 +221,7 @@ pub fn group_columns(s: &[u8], at: usize, w: usize) -> bool
         && reads_there(s, behind, s[at + 2] as usize, w)
 }
 
-/// 4 at a grouping over columns of these kinds; l is the left width of the join below, else 0.
+/// Whether 4 does not hold at a grouping over columns of these kinds; l is the left width of the join below, else 0.
 #[tactic(auto, unfolding(node_bytes::specs::Nodes::group_size, crate::specs::Numbers::group_weights_at))]
 pub fn group_weights(s: &[u8], at: usize, l: usize, kinds: &[u8; 16]) -> bool
     requires { at + group_size s.now at ≤ length s.now }

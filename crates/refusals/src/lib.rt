@@ -1,6 +1,6 @@
 #![tactic(auto)]
 
-// What a job says no with. 01's numbers are the answers of `u32::from`, and of C.
+// What a job says no with. The scope's numbers are the answers of `u32::from`, and of C.
 ghost use Rattle.std.specs.Prelude.{◌≡◌};
 ghost use Rattle.refusals.specs.Numbers.{refusal_number};
 

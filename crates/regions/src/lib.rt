@@ -1,6 +1,6 @@
 #![tactic(auto)]
 
-// Rows in a lent area of cells and marks: where they stand, how they are copied, and how an area is cleared.
+// Rows in a lent area of cells and marks: where they stand, how a cell is read, how rows are copied, and how an area is cleared.
 // Cells and marks are two parameters: a struct of two `&mut` would add to each contract that it still holds the same two.
 ghost use Rattle.std.specs.Prelude.{◌≡◌, ◌≤◌, length};
 ghost use Rattle.regions.specs.Reading.{CellIn, cell_of, number_or_none};

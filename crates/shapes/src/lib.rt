@@ -2,6 +2,7 @@
 
 // The shape of a byte string: its nodes, one behind the other, and whether they make one tree.
 // A node is named by its string and its place in it, as the definitions name it: the rest of the string would be another string.
+// n defaults or aggregates are named by the place of the first, as their laws go by it.
 ghost use Rattle.std.specs.Prelude.{◌≡◌, ℕ, ◌+◌, ◌*◌, ◌<◌, ◌≤◌, length, get_or};
 ghost use Rattle.node_bytes.specs.Nodes.{byte, cell_good, cells_good, aggregate_good, aggregates_good, join_size, group_size, join_good, group_good, size_if, node_size, inputs};
 ghost use Rattle.node_bytes.specs.Tags.{byte_in};

@@ -1,7 +1,7 @@
 #![tactic(auto)]
 
 // Tables in lent memory: whether one that a plan names is right.
-ghost use Rattle.std.specs.Prelude.{◌≡◌, ◌+◌, ◌*◌, ◌<◌, ◌≤◌, length};
+ghost use Rattle.std.specs.Prelude.{◌≡◌, ◌+◌, ◌<◌, ◌≤◌, length};
 ghost use Rattle.meaning.specs.Running.{cell_right, cells_right, place_right};
 ghost use Rattle.tables.specs.Places.{inside_at, place_of, table_right};
 ghost use Rattle.tables.specs.Lending.{lent_by};
