@@ -1,31 +1,15 @@
 -- The tests that go over n things, as `all` makes them and thing by thing: bytes of a part, columns that are all different, defaults
 -- with their kinds; and one turn of a loop that writes a list from the front.
-use Rattle.std.specs.Prelude.{◌≡◌, refl, Bool, true, false, not, ◌&&◌, ◌||◌, List, [], ◌∷◌, ◌++◌, ℕ, zero, suc, ◌+◌, ◌*◌, ◌-◌, ◌<◌, ◌≤◌, eqb, ltb, length, get_or, take, drop, set, slice_range, Option, MatchOption}
-use Rattle.std.specs.declared.ops.Range.{Range}
-use Rattle.std.specs.List.{FoldsTo, list_all, list_any, range_with_len}
+use Rattle.std.specs.Prelude.{◌≡◌, refl, Bool, true, false, not, ◌&&◌, ◌||◌, List, [], ◌∷◌, ◌++◌, ℕ, zero, suc, ◌+◌, ◌*◌, ◌-◌, ◌<◌, ◌≤◌, eqb, ltb, length, get_or, take, drop, set, slice_range}
+use Rattle.std.specs.List.{list_all, list_any, range_with_len}
 use Rattle.std.proofs.Common.{sym, ap, ◌∙◌, append-nil, append_assoc, add-one, arith, length-take, length-drop, drop-cons, get_or-take, get_or-drop, length-set, take-suc, take-suc-set}
 use Rattle.std.proofs.lemmas.List.{drop-take, drop-drop}
-use Rattle.std.proofs.lemmas.Iterator.{YieldsList-from_range}
-use Rattle.std.proofs.lemmas.Iterator.Search.{all_from_yields_List}
-use Rattle.std.proofs.iter.Yields.{nat_range_steps}
-use Rattle.std.specs.Fn.{Called}
-use Rattle.std.specs.Iterator.{YieldsThen}
-use denote.Param.Members.{Mut}
 use Rattle.node_bytes.specs.Nodes.{byte, group_size}
-use Rattle.node_bytes.specs.Rows.{every, every_of-range, list_at, list_more}
+use Rattle.node_bytes.specs.Rows.{every, list_at, list_more}
 use Rattle.node_checks.specs.Tests.{eqb_same}
 use Rattle.node_checks.specs.Columns.{column_at, columns_at, other_at, absent_at, alone, all_alone, distinct_at, reads_at}
 use Rattle.node_checks.specs.Weights.{default_at, defaults_at}
 use Rattle.node_checks.specs.Numbers.{group_columns_at}
-
--- what `all` answers over the numbers of n things, each k behind the one before, where its closure tests the thing of a number
-pub each_tested : {F : Type 0} {g : Mut F (ℕ × Unit {0}) Bool} {u : Range ℕ} {f : F} {r : Bool} (t : ℕ → Bool) (k at n : ℕ)
-    → (xs : List ℕ) × (o : Option ℕ) × (j : F) × YieldsThen nat_range_steps (record { start = 0; end = n }) xs o u
-    × FoldsTo (λ p x q. Called g p (x, tt) true q) f xs j
-    × MatchOption o (r ≡ true) (λ x. (r ≡ false) × ((h : F) × Called g j (x, tt) false h))
-    → ((x : ℕ) (b : Bool) (q : F) → Called g f (x, tt) b q → (q ≡ f) × (b ≡ t (at + k * x)))
-    → r ≡ every t k at n
-each_tested t k at n ran says = all_from_yields_List _ _ _ _ ran (YieldsList-from_range 0 n n refl (omega arith)) says ∙ every_of-range t k at n
 
 -- a test of each byte of a part of a string is the test at each place
 every_in : (f : ℕ → Bool) (s : List ℕ) (at n : ℕ) → at + n ≤ length s

@@ -1,4 +1,4 @@
--- The numbers of 01 for what a job answers: "A pass or a result has number 0. A refusal comes back as its number, with row .. count 0."
+-- The numbers of the scope for what a job answers: "A pass or a result has number 0. A refusal comes back as its number, with row .. count 0."
 use Rattle.std.specs.Prelude.{ℕ, Option, Some, None, Result, Ok, Err}
 use Rattle.refusals.specs.declared.Refusal.{Refusal}
 use Rattle.refusals.specs.declared.Refusal.TheVariants.{NoPlan, Limits, Columns, Weights, Tables, Room, Rows}

@@ -1,7 +1,7 @@
 -- `node_checks::pairs_there` tests both columns of each pair: things of two bytes.
 use Rattle.std.proofs.Common.{rules}
+use Rattle.node_bytes.specs.Each.{each_tested}
 use Rattle.node_checks.specs.Columns.{pair_at, pairs_at}
-use Rattle.node_checks.specs.Steps.{each_tested}
 use Rattle.node_checks.proofs.pairs_there.Goals as goal
 
 pub returns : goal.returns

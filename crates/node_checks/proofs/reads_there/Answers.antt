@@ -1,7 +1,7 @@
 -- `node_checks::reads_there` tests what each aggregate reads: things of three bytes.
 use Rattle.std.proofs.Common.{rules}
+use Rattle.node_bytes.specs.Each.{each_tested}
 use Rattle.node_checks.specs.Columns.{read_at, reads_at}
-use Rattle.node_checks.specs.Steps.{each_tested}
 use Rattle.node_checks.proofs.reads_there.Goals as goal
 
 pub returns : goal.returns

@@ -1,7 +1,7 @@
 -- `node_checks::weights_right` tests the weight of each aggregate: things of three bytes.
 use Rattle.std.proofs.Common.{rules}
+use Rattle.node_bytes.specs.Each.{each_tested}
 use Rattle.node_checks.specs.Weights.{weight_at, weights_at}
-use Rattle.node_checks.specs.Steps.{each_tested}
 use Rattle.node_checks.proofs.weights_right.Goals as goal
 
 pub returns : goal.returns
