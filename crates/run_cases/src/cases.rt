@@ -115,7 +115,8 @@ impl Case {
     }
 
     // Runs the plan in areas that are filled, and says what came back and what they hold then.
-    pub(crate) fn run(&self, rt: &impl Print, label: &str) -> io::Result<()> {
+    // By value: a case that is only lent keeps its place on the stack beside the next ones.
+    pub(crate) fn run(self, rt: &impl Print, label: &str) -> io::Result<()> {
         let mut work = [FILL; MOST_WORK];
         let mut work_marks = [FILL_MARK; MOST_WORK];
         let mut res = [FILL; MOST_RESULT];
