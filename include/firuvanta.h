@@ -1,6 +1,7 @@
 /* Firuvanta: check a plan over integer tables, and run it.
  *
- * Link with libfiruvanta.a. No function allocates, keeps a pointer, reads or writes outside what is lent, or fails to return.
+ * Link with libfiruvanta.a, which asks for nothing from outside but `memset`.
+ * No function allocates, keeps a pointer, reads or writes outside what is lent, or fails to return.
  */
 #ifndef FIRUVANTA_H
 #define FIRUVANTA_H

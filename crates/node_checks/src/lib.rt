@@ -194,7 +194,10 @@ pub fn join_kinds(left: [u8; 16], l: usize, right: &[u8; 16], r: usize) -> [u8; 
 {
     let mut out = left;
     if l + r <= 16 {
-        out[l..l + r].copy_from_slice(&right[..r]);
+        // kind by kind: the library's copy calls `memcpy`, and of names from outside the archive asks for `memset` alone
+        for i in 0..r {
+            out[l + i] = kind_of(right, i);
+        }
     }
     out
 }

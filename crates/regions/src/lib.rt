@@ -53,8 +53,11 @@ pub fn copy_into(
     requires { RoomIn source.now source_marks.now cells.old marks.old from to n }
     ensures { CopiedIn source.now source_marks.now cells.old marks.old cells.new marks.new from to n }
 {
-    cells[to..to + n].copy_from_slice(&source[from..from + n]);
-    marks[to..to + n].copy_from_slice(&source_marks[from..from + n]);
+    // cell by cell as above: the library's copy calls `memmove`, and of names from outside the archive asks for `memset` alone
+    for i in 0..n {
+        cells[to + i] = source[from + i];
+        marks[to + i] = source_marks[from + i];
+    }
 }
 
 // The first n elements of an area become zero; `fill` would ask that a clone of `zero` not fail, which `Copy` does not say.
