@@ -1,5 +1,5 @@
 -- Tables as three numbers each in one lent list: width, rows and start.
-use Rattle.std.specs.Prelude.{◌≡◌, refl, Bool, true, false, ◌&&◌, List, [], ◌∷◌, ℕ, zero, suc, ◌+◌, ◌-◌, ◌*◌, ◌/◌, ◌^◌, ◌<◌, ◌≤◌, eqb, leb, ltb, ℤ, pos, negsuc, nat_abs}
+use Rattle.std.specs.Prelude.{◌≡◌, refl, Bool, true, false, ◌&&◌, ◌||◌, List, [], ◌∷◌, ℕ, zero, suc, ◌+◌, ◌-◌, ◌*◌, ◌/◌, ◌^◌, ◌<◌, ◌≤◌, eqb, leb, ltb, ℤ, pos, negsuc, nat_abs}
 use Rattle.std.proofs.Common.{sym, ◌∙◌, SFits, of_z, arith, ltb-true, ltb-false, lt-ltb, le-ltb, leb-true, le-leb, eq-eqb, ne_eqb}
 use Rattle.std.proofs.Math.Path.{ap}
 use Rattle.std.proofs.Math.Bool.{or-false}
@@ -52,6 +52,26 @@ too_low (negsuc n) e = lt-leb (suc n) 2147483647 (omega (arith, ltb-true 2147483
 pub not_too_low : (z : ℤ) → lt_z z (negsuc 2147483646) ≡ false → le_z z (pos 2147483647) ≡ leb (nat_abs z) 2147483647
 not_too_low (pos n) e = refl
 not_too_low (negsuc n) e = sym (le-leb (suc n) 2147483647 (omega (arith, ltb-false 2147483646 n e)))
+
+-- neither of two holds, each with something false
+neither : (a b : Bool) → false ≡ ((a && false) || (b && false))
+neither true true = refl
+neither true false = refl
+neither false true = refl
+neither false false = refl
+
+-- a cell outside the range is wrong, whatever its mark: 0 lies inside
+right_outside : (z : ℤ) (m : ℕ) → leb (nat_abs z) 2147483647 ≡ false → false ≡ cell_right z m
+unfolding cell_right most_size eq_z
+right_outside (pos zero) m e = absurd (let q : true ≡ false = e in cc)
+right_outside (pos (suc n)) m e = rw (e, ne_eqb (suc n) 0 (λ q. omega arith)) (neither (eqb m 0) (eqb m 1))
+right_outside (negsuc n) m e = rw e (neither (eqb m 0) (eqb m 1))
+
+pub right_low : (z : ℤ) (m : ℕ) → lt_z z (negsuc 2147483646) ≡ true → false ≡ cell_right z m
+right_low z m e = right_outside z m (too_low z e)
+
+pub right_high : (z : ℤ) (m : ℕ) → lt_z z (negsuc 2147483646) ≡ false → le_z z (pos 2147483647) ≡ false → false ≡ cell_right z m
+right_high z m e f = right_outside z m (sym (not_too_low z e) ∙ f)
 
 -- what decides a cell, by its mark
 pub right_present : (z : ℤ) (m : ℕ) → m ≡ 0 → leb (nat_abs z) 2147483647 ≡ cell_right z m
