@@ -35,6 +35,14 @@ module _ (s bs : List ℕ) (at : ℕ) (copied : bs ≡ take (at + 8 - at) (drop 
         byte_copied 7 (lit< tt),
       )
 
+-- and so is that of eight bytes that were listed
+pub word_listed : (s : List ℕ) (at : ℕ)
+    → from_le_bytes w64
+    (get_or s at 0 ∷ get_or s (at + 1) 0 ∷ get_or s (at + 2) 0 ∷ get_or s (at + 3) 0 ∷ get_or s (at + 4) 0 ∷ get_or s (at + 5) 0 ∷ get_or s (at + 6) 0 ∷ get_or s (at + 7) 0 ∷ [])
+    ≡ word_at s at
+unfolding word_at
+word_listed s at = omega arith
+
 digits : (x b0 b1 b2 b3 b4 b5 b6 b7 : ℕ) → b0 ≡ x % 256 → b1 ≡ x / 256 % 256 → b2 ≡ x / 256 / 256 % 256 → b3 ≡ x / 256 / 256 / 256 % 256
     → b4 ≡ x / 256 / 256 / 256 / 256 % 256 → b5 ≡ x / 256 / 256 / 256 / 256 / 256 % 256 → b6 ≡ x / 256 / 256 / 256 / 256 / 256 / 256 % 256
     → b7 ≡ x / 256 / 256 / 256 / 256 / 256 / 256 / 256

@@ -39,12 +39,21 @@ impl From<u8> for Tag {
 }
 
 /// The number of the eight bytes from a place on, the lowest first.
-#[tactic(auto, using(crate::specs::Words::word_copied))]
+#[tactic(auto, using(crate::specs::Words::word_listed))]
 pub fn word(s: &[u8], at: usize) -> u64
     requires { at + 8 ≤ length s.now }
     ensures { result ≡ word_at s.now at }
 {
-    let mut bytes = [0; 8];
-    bytes.copy_from_slice(&s[at..at + 8]);
+    // listed, they are read in one; the library's copy can be compiled to a test of where they lie and a copy on the stack
+    let bytes = [
+        s[at],
+        s[at + 1],
+        s[at + 2],
+        s[at + 3],
+        s[at + 4],
+        s[at + 5],
+        s[at + 6],
+        s[at + 7],
+    ];
     u64::from_le_bytes(bytes)
 }
