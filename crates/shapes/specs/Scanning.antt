@@ -128,3 +128,18 @@ started_step {s} {out} {at} {k} {size} c e h = record {
     at_index : (j : ℕ) → j < k + 1 → Dec (j < k) → get_or (set out k at) j 0 ≡ start_of s j
     at_index j l (yes b) = get_or-set_other out k j at 0 (λ q. omega arith) ∙ c.each j b
     at_index j l (no b) = let q : j ≡ k = omega arith in rw q (get_or-set_same out k at 0 (omega (arith, c.wide)) ∙ c.here)
+
+-- ---- a loop may note a start only where it has moved on to it: then `at` starts the node before the k-th
+
+pub started_first : (s out : List ℕ) → length out ≡ 12 → get_or out 0 0 ≡ 0 → Started s out (0 + node_size s 0) 1
+unfolding start_of
+started_first s out w z = record {
+  each = λ j h. let q : j ≡ 0 = omega arith in rw q z;
+  here = refl;
+  within = omega (arith, node-fits s 0);
+  wide = w;
+}
+
+pub started_next : {s out : List ℕ} {next k : ℕ} (at : ℕ) → Started s out (at + node_size s at) k → next ≡ at + node_size s at → k < 12
+    → Started s (set out k next) (next + node_size s next) (k + 1)
+started_next {s} {out} {next} {k} at c e h = started_step (rw e c) (sym (moved (node_size s next))) h

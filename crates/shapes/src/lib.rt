@@ -83,7 +83,8 @@ fn pads(tag: Tag, lefts: usize, rights: usize) -> bool
     }
 }
 
-// The bytes of the join at a place, if a right one is there.
+// The bytes of the join at a place, if a right one is there. It and `group_size` are out of line, so that the scans have the size of a table in line.
+#[inline(never)]
 #[tactic(auto, using(crate::proofs::Ways::size_ways), unfolding(node_bytes::specs::Nodes::join_size))]
 fn join_size(s: &[u8], at: usize) -> Option<usize>
     requires inside { at < length s.now }
@@ -108,6 +109,7 @@ fn join_size(s: &[u8], at: usize) -> Option<usize>
 }
 
 // The bytes of the grouping at a place, if a right one is there.
+#[inline(never)]
 #[tactic(auto, using(crate::proofs::Ways::size_ways), unfolding(node_bytes::specs::Nodes::group_size, node_bytes::specs::Nodes::group_good))]
 fn group_size(s: &[u8], at: usize) -> Option<usize>
     requires { at < length s.now }
@@ -127,12 +129,13 @@ fn group_size(s: &[u8], at: usize) -> Option<usize>
 }
 
 // The bytes of the node at a place, if one is there.
+#[inline]
 #[tactic(auto, using(crate::proofs::Ways::kind_ways))]
 fn node_size(s: &[u8], at: usize) -> Option<usize>
     ensures { result ≡ size_of (node_size s.now at) }
 {
     match Tag::from(*s.get(at)?) {
-        Tag::Table => (3 <= s.len() - at).then_some(3),
+        Tag::Table => (at + 3 <= s.len()).then_some(3),
         Tag::Inner | Tag::LeftOuter | Tag::FullOuter => join_size(s, at),
         Tag::Grouping => group_size(s, at),
         Tag::Other => None,
@@ -182,9 +185,12 @@ impl<'a> Nodes<'a> {
     {
         let mut starts = [0; 12];
         let mut at = 0;
-        for start in &mut starts {
-            *start = at;
-            at += node_size(bytes, at).unwrap_or(0);
+        for k in 1..12 {
+            // from the end on there is nothing to measure, and most plans end long before 12 nodes
+            if at < bytes.len() {
+                at += node_size(bytes, at).unwrap_or(0);
+            }
+            starts[k] = at;
         }
         Nodes { bytes, starts }
     }

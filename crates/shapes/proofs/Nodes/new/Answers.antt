@@ -1,10 +1,18 @@
--- `shapes::Nodes::new` notes where each node starts: the loop's place is the start of the next node, and moves on by its size.
-use Rattle.std.proofs.Common.{refl, rules}
-use Rattle.shapes.specs.Scanning.{started_starts, started_step}
+-- `shapes::Nodes::new` notes where each node starts: the loop's place is the start of the node before the k-th, and moves on by its size.
+use Rattle.std.proofs.Common.{refl, ap, ◌∙◌, ℕ, ◌+◌, rules}
+use Rattle.shapes.specs.Scanning.{moved, started_first, started_next}
+use Rattle.shapes.specs.Steps.{stays}
 use Rattle.shapes.proofs.Nodes.new.Goals as goal
+use Rattle.shapes.proofs.Nodes.new.Goals.{then-at-bytes, else-at-bytes}
 
-pub loop-start-init : goal.loop-start-init
-loop-start-init c = started_starts _ _ refl
+pub loop-k-init : goal.loop-k-init
+loop-k-init c = started_first _ _ refl refl
 
-pub loop-start-preserved : goal.loop-start-preserved
-loop-start-preserved c = started_step c.loop-start.invariant (search rules) (search rules)
+pub loop-k-preserved : goal.loop-k-preserved
+loop-k-preserved c =
+    started_next c.loop-k.at c.loop-k.invariant
+    (elim c.if-at-bytes.branch [
+      | then-at-bytes w ↦ w.at-is ∙ ap (λ (n : ℕ). c.loop-k.at + n) (search (rules, moved))
+      | else-at-bytes w ↦ w.at-is ∙ stays _ _ w.if-at-bytes.false
+    ])
+    c.loop-k-test.true
