@@ -1,5 +1,5 @@
 -- A grouping's node describes the grouping, and a table's node the table.
-use Rattle.std.specs.Prelude.{◌≡◌, refl, Bool, true, false, cond, ◌&&◌, ℕ, zero, suc, ◌+◌, ◌<◌, ◌≤◌, leb, replicate}
+use Rattle.std.specs.Prelude.{Option, ◌≡◌, refl, Bool, true, false, cond, ◌&&◌, ℕ, zero, suc, ◌+◌, ◌<◌, ◌≤◌, leb, replicate}
 use Rattle.std.proofs.Math.Path.{sym, ap}
 use Rattle.std.proofs.Common.{subst, ◌∙◌, leb-true, List, ◌∷◌, ◌++◌, map, arith}
 use Rattle.std.proofs.Math.Bool.{and-true}
@@ -11,6 +11,7 @@ use Rattle.meaning.specs.Columns.{width, kinds, kind_at, aggregate_kind}
 use Rattle.meaning.specs.Arrangement.{group_bytes}
 use Rattle.meaning.specs.Check.{all, every_node, pairs_within, node_within, columns_there, distinct, node_columns, is_join, left_width, node_weights}
 use Rattle.meaning.proofs.Widths.{kinds-long}
+use Rattle.refusals.specs.declared.Refusal.{Refusal}
 use Rattle.refusals.specs.Numbers.{number_if}
 use Rattle.lists.specs.Each.{map-append}
 use Rattle.lists.specs.Tests.{and_left, and_right}
@@ -48,6 +49,11 @@ left-some (join j ps l r) e _ =
     (and_left (every_node node_within l) (every_node node_within r) (and_right (node_within (join j ps l r)) (every_node node_within l && every_node node_within r) e)))
     ).0
 left-some (group cols aggs i) e j = absurd (let z : ◌≡◌ {A = ℕ} 0 1 = cc in omega arith)
+
+-- the refusal of a grouping above its input: the input's and its own tests decide
+abbrev pub RefusesGroup : List ℕ → ℕ → Node → Option Refusal → Type 0
+RefusesGroup s at i out =
+    number_if out ≡ verdict (number_if i.refusal) (group_within_at s at) (group_columns_at s at i.width) (group_weights_at s at i.split i.kinds)
 
 -- the node that the code makes of a grouping
 pub record GroupMade (s : List ℕ) (at : ℕ) (i out : Node) : Type 0 where

@@ -1,5 +1,5 @@
 -- A join's node describes the join: its tests of bytes are those of the tree, and so are its kinds.
-use Rattle.std.specs.Prelude.{◌≡◌, refl, ◌⊎◌, Bool, ◌&&◌, ℕ, ◌+◌, ◌*◌, ◌≤◌, eqb, length}
+use Rattle.std.specs.Prelude.{Option, ◌≡◌, refl, ◌⊎◌, Bool, ◌&&◌, ℕ, ◌+◌, ◌*◌, ◌≤◌, eqb, length}
 use Rattle.std.proofs.Math.Path.{sym, ap}
 use Rattle.std.proofs.Common.{◌∙◌, ⊎_elim, List, [], ◌++◌, map, leb-true, eqb-true}
 use Rattle.std.proofs.Math.Logic.{inl, inr}
@@ -14,6 +14,7 @@ use Rattle.meaning.specs.Columns.{width, kinds, nodes}
 use Rattle.meaning.specs.Arrangement.{in_row, cell_bytes, join_number, join_bytes}
 use Rattle.meaning.specs.Check.{every_node, pairs_within, node_within, pairs_there, defaults_there, node_columns, defaults_right, node_weights, left_width}
 use Rattle.meaning.proofs.Widths.{kinds-long}
+use Rattle.refusals.specs.declared.Refusal.{Refusal}
 use Rattle.refusals.specs.Numbers.{number_if}
 use Rattle.lists.specs.Each.{map-append}
 use Rattle.lists.specs.Tests.{and_left, and_right}
@@ -65,6 +66,12 @@ inputs_fine p q two three =
   where
     law : number_by (every_node node_within p && every_node node_within q) (every_node node_columns p && every_node node_columns q) (every_node node_weights p && every_node node_weights q) ≡ lesser (number_by (every_node node_within p) (every_node node_columns p) (every_node node_weights p)) (number_by (every_node node_within q) (every_node node_columns q) (every_node node_weights q))
     law = inputs-law (every_node node_within p) (every_node node_within q) (every_node node_columns p) (every_node node_columns q) (every_node node_weights p) (every_node node_weights q)
+
+-- the refusal of a join above its inputs: theirs and its own tests decide
+abbrev pub RefusesJoin : List ℕ → ℕ → Node → Node → Option Refusal → Type 0
+RefusesJoin s at l r out =
+    number_if out
+    ≡ verdict (lesser (number_if l.refusal) (number_if r.refusal)) (join_within_at s at l.width r.width) (join_columns_at s at l.width r.width) (join_weights_at s at l.kinds r.kinds)
 
 -- the node that the code makes of a join
 pub record JoinMade (s : List ℕ) (at : ℕ) (l r out : Node) : Type 0 where

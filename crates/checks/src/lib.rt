@@ -8,6 +8,8 @@ ghost use Rattle.refusals.specs.Numbers.{number_if, number_of};
 ghost use Rattle.node_bytes.specs.Nodes.{join_size, group_size};
 ghost use Rattle.checks.specs.Verdicts.{lesser, verdict};
 ghost use Rattle.checks.specs.Answering.{RootOf};
+ghost use Rattle.checks.specs.Joins.{RefusesJoin};
+ghost use Rattle.checks.specs.Groups.{RefusesGroup};
 ghost use Rattle.checks.specs.Describing.{Standing, Describes, DescribesJoin, DescribesGroup, DescribesTable};
 
 use node_bytes::Tag;
@@ -16,7 +18,7 @@ use shapes::Nodes;
 
 // What a node's parent needs of it: the refusal of its subtree, its width and kinds, numbers as `node_checks` takes them, the number of its
 // subtree's first node, and the width of its left input where it is a join, else 0: no Option, since `group_weights` takes the 0.
-#[derive(Drop)]
+#[derive(Clone, Copy)]
 struct Node {
     refusal: Option<Refusal>,
     width: usize,
@@ -52,9 +54,7 @@ fn verdict_of(sofar: Option<Refusal>, within: bool, columns: bool, weights: bool
     }
 }
 
-// A table, the n-th node: its columns are plain. It is out of line, so that its frame is no part of `describe`'s, which stands
-// once for each level of a plan.
-#[inline(never)]
+// A table, the n-th node: its columns are plain.
 fn table_node(n: usize, width: usize) -> Node
     ensures { DescribesTable n width result }
 {
@@ -68,60 +68,84 @@ fn table_node(n: usize, width: usize) -> Node
     }
 }
 
-// A join above its inputs; out of line as a table is.
+// The refusal of a join above its inputs. It is out of line, so that its frame is no part of `describe`'s, which stands once for
+// each level of a plan.
 #[inline(never)]
+fn join_refusal(s: &[u8], at: usize, l: Node, r: Node) -> Option<Refusal>
+    requires { (at + join_size s.now at ≤ length s.now) × ((l.width < 65536) × (r.width < 65536)) }
+    ensures { RefusesJoin s.now at l r result }
+{
+    let left = l.kinds;
+    let right = r.kinds;
+    let sofar = lesser_of(l.refusal, r.refusal);
+    let within = node_checks::join_within(s, at, l.width, r.width);
+    let columns = node_checks::join_columns(s, at, l.width, r.width);
+    let weights = node_checks::join_weights(s, at, &left, &right);
+    verdict_of(sofar, within, columns, weights)
+}
+
+// A join above its inputs. Of these only kinds are lent, and by copies, so that the nodes stay where they were made.
 fn join_node(s: &[u8], at: usize, l: Node, r: Node) -> Node
     requires { (at + join_size s.now at ≤ length s.now) × ((l.width < 65536) × (r.width < 65536)) }
     ensures { DescribesJoin s.now at l r result }
 {
-    let sofar = lesser_of(l.refusal, r.refusal);
-    let within = node_checks::join_within(s, at, l.width, r.width);
-    let columns = node_checks::join_columns(s, at, l.width, r.width);
-    let weights = node_checks::join_weights(s, at, &l.kinds, &r.kinds);
+    let right = r.kinds;
     Node {
-        refusal: verdict_of(sofar, within, columns, weights),
+        refusal: join_refusal(s, at, l, r),
         width: l.width + r.width,
         first: l.first,
         split: l.width,
-        kinds: node_checks::join_kinds(l.kinds, l.width, &r.kinds, r.width),
+        kinds: node_checks::join_kinds(l.kinds, l.width, &right, r.width),
     }
 }
 
-// A grouping above its input; out of line as a table is.
+// The refusal of a grouping above its input; out of line as a join's is.
 #[inline(never)]
+fn group_refusal(s: &[u8], at: usize, i: Node) -> Option<Refusal>
+    requires { at + group_size s.now at ≤ length s.now }
+    ensures { RefusesGroup s.now at i result }
+{
+    let below = i.kinds;
+    let within = node_checks::group_within(s, at);
+    let columns = node_checks::group_columns(s, at, i.width);
+    let weights = node_checks::group_weights(s, at, i.split, &below);
+    verdict_of(i.refusal, within, columns, weights)
+}
+
+// A grouping above its input, of which the kinds are lent as a join's are.
 #[tactic(auto, unfolding(node_bytes::specs::Nodes::group_size))]
 fn group_node(s: &[u8], at: usize, i: Node) -> Node
     requires { at + group_size s.now at ≤ length s.now }
     ensures { DescribesGroup s.now at i result }
 {
-    let within = node_checks::group_within(s, at);
-    let columns = node_checks::group_columns(s, at, i.width);
-    let weights = node_checks::group_weights(s, at, i.split, &i.kinds);
+    let below = i.kinds;
     Node {
-        refusal: verdict_of(i.refusal, within, columns, weights),
+        refusal: group_refusal(s, at, i),
         width: s[at + 1] as usize + s[at + 2] as usize,
         first: i.first,
         split: 0,
-        kinds: node_checks::group_kinds(s, at, &i.kinds),
+        kinds: node_checks::group_kinds(s, at, &below),
     }
 }
 
 // The n-th node of a plan, from its inputs: the right or only one stands just before it, the left one before the right's subtree.
+// A table returns first and a grouping takes what is a join's right input, so that a level's frame holds two nodes and no third.
 fn describe(nodes: &Nodes, n: usize) -> Node
     requires { Standing nodes.now.bytes.now n }
     ensures { Describes nodes.now.bytes.now n result }
 {
     let s = nodes.bytes;
     let at = nodes.starts[n];
-    match Tag::from(s[at]) {
-        Tag::Table => table_node(n, s[at + 2] as usize),
-        Tag::Grouping => group_node(s, at, describe(nodes, n - 1)),
-        _ => {
-            let right = describe(nodes, n - 1);
-            let left = describe(nodes, right.first - 1);
-            join_node(s, at, left, right)
-        }
+    let tag = Tag::from(s[at]);
+    if tag == Tag::Table {
+        return table_node(n, s[at + 2] as usize);
     }
+    let right = describe(nodes, n - 1);
+    if tag == Tag::Grouping {
+        return group_node(s, at, right);
+    }
+    let left = describe(nodes, right.first - 1);
+    join_node(s, at, left, right)
 }
 
 /// What the plan of a byte string is to a job where it passes: its count of nodes and its root's width.
