@@ -18,13 +18,14 @@ use shapes::Nodes;
 
 // What a node's parent needs of it: the refusal of its subtree, its width and kinds, numbers as `node_checks` takes them, the number of its
 // subtree's first node, and the width of its left input where it is a join, else 0: no Option, since `group_weights` takes the 0.
+// The kinds stand between, so that a table's zeros are written as its parent reads them: sixteen at once.
 #[derive(Clone, Copy)]
 struct Node {
     refusal: Option<Refusal>,
     width: usize,
     first: usize,
-    split: usize,
     kinds: [u8; 16],
+    split: usize,
 }
 
 // Of two refusals the one that comes first.
