@@ -16,9 +16,9 @@ use Rattle.running.specs.declared.Running.{Running}
 use Rattle.running.specs.States.{add_to, start_of, Room}
 use Rattle.running.specs.Names.{called, named_called}
 use Rattle.running.specs.Values.{Rises, rises-front}
-use Rattle.running.specs.Rows.{taken_by, taken-by}
+use Rattle.running.specs.Rows.{taken_by, taken-by, Gives, gives, Reads, gives_read}
 use Rattle.running.specs.Sizes.{most_of, most-append}
-use Rattle.running.specs.Laws.{Took, took_none, took_cells, took_room-cells}
+use Rattle.running.specs.Laws.{Took, took_none, took_given, took_room-given}
 
 -- the values that an aggregate of this name with these columns v and c takes of rows
 unfoldable pub values_by : Name → ℕ → ℕ → Table → List ℤ
@@ -138,16 +138,23 @@ module _ {name v c : ℕ} {cells : List ℤ} {marks : List ℕ} {base rows w : �
     unfolding cell_of cell
     read i b = ap number_or_none (sym (cells_at cells marks (base + k * w) w i b))
 
-    -- one row more
+    -- one row more, of which at least what counts is read
+    module _ {st : Running} (t : Fed name v c cells marks base k w st) {x y : Option ℤ}
+        (r : Reads (named name) (number_or_none (cell_of cells marks (base + k * w + v))) (number_or_none (cell_of cells marks (base + k * w + c))) x y) where
+      given : Gives (name_at name) x y (taken_by (name_at name) (cell row v) (cell row c))
+      given = gives_read (rw (known-called name room.known, read v room.v_in, read c room.c_in) at r) (gives (name_at name) (cell row v) (cell row c))
+
+      pub read_room : Room st x y
+      read_room = took_room-given t given (most-front (name_at name) _ _ (rw values_split at room.small))
+
+      pub read_more : {st' : Running} → st' ≡ add_to st x y → Fed name v c cells marks base (k + 1) w st'
+      read_more e = rw (e, more, next) (took_given t x y given (rises-front (name_at name) _ _ (rw values_split at room.rises)))
+
+    -- the same where both cells are read
     module _ {st : Running} (t : Fed name v c cells marks base k w st) {x y : Option ℤ}
         (ex : x ≡ number_or_none (cell_of cells marks (base + k * w + v))) (ey : y ≡ number_or_none (cell_of cells marks (base + k * w + c))) where
       pub fed_room : Room st x y
-      fed_room =
-          rw (ex, ey, read v room.v_in, read c room.c_in)
-          (took_room-cells t (cell row v) (cell row c)
-          (most-front (name_at name) _ _ (rw values_split at room.small)))
+      fed_room = read_room t (record { counts = rw (ex, ey); same = λ d. ex })
 
       pub fed_more : {st' : Running} → st' ≡ add_to st x y → Fed name v c cells marks base (k + 1) w st'
-      fed_more e =
-          rw (e, ex, ey, read v room.v_in, read c room.c_in, more, next)
-          (took_cells t (cell row v) (cell row c) (rises-front (name_at name) _ _ (rw values_split at room.rises)))
+      fed_more e = read_more t (record { counts = rw (ex, ey); same = λ d. ex }) e

@@ -6,8 +6,11 @@
 // The definitions take the place, the count and the width of rows as three numbers.
 ghost use Rattle.std.specs.Prelude.{◌≡◌, ℕ, ◌+◌, ◌<◌, ◌≤◌, length};
 ghost use Rattle.meaning.specs.Running.{rows_from};
+ghost use Rattle.rules.specs.Named.{named};
 ghost use Rattle.node_bytes.specs.Nodes.{byte};
 ghost use Rattle.arrangement.proofs.Roots.{columns_from};
+ghost use Rattle.regions.specs.Reading.{CellIn, cell_of, number_or_none};
+ghost use Rattle.running.specs.Rows.{Reads};
 ghost use Rattle.groups.proofs.Runs.{RunEnd};
 ghost use Rattle.grouping.specs.Picking.{PickRoom, PickDone};
 ghost use Rattle.grouping.specs.Feeding.{FeedRoom, Fed};
@@ -17,6 +20,7 @@ ghost use Rattle.grouping.specs.Ending.{EndRoom};
 ghost use Rattle.grouping.specs.Grouping.{GroupRoom, RunsDone, GroupDone};
 
 use regions::{Rows, cell_at};
+use rules::Name;
 use running::Running;
 
 // Writes n cells behind one another, each from its place below them.
@@ -41,20 +45,91 @@ fn key_columns(s: &[u8], at: usize) -> &[u8]
     &s[at + 3..at + 3 + n]
 }
 
-// The state of an aggregate that has taken the rows, by its number, as `Running::new` takes it, and its columns v and c.
+// What an aggregate of this name reads of the row at a place: its cells v and c, None for one that it does not read.
+// Inlined where `feed_as` is, so that a cell that the name does not read costs nothing.
+#[tactic(auto, unfolding(running::specs::States::amount_of, running::specs::States::product_if, running::specs::States::distinct_of))]
+#[inline(always)]
+fn read(
+    kind: Name,
+    v: usize,
+    c: usize,
+    cells: &[i64],
+    marks: &[u8],
+    row: usize,
+) -> (Option<i64>, Option<i64>)
+    requires v_in { CellIn cells.now marks.now (row + v) }
+    requires c_in { CellIn cells.now marks.now (row + c) }
+    ensures { Reads kind (number_or_none (cell_of cells.now marks.now (row + v))) (number_or_none (cell_of cells.now marks.now (row + c))) result.0 result.1 }
+{
+    match kind {
+        Name::Rows => (None, None),
+        Name::WeightedSum | Name::WeightedCount | Name::Other(_) => (
+            cell_at(cells, marks, row + v),
+            cell_at(cells, marks, row + c),
+        ),
+        _ => (cell_at(cells, marks, row + v), None),
+    }
+}
+
+// The state of an aggregate that has taken the rows, by its name, the number that says it, and its columns v and c.
+// Inlined where `feed_rows` says the name, so that the choice by name is made once, and not at each row.
+#[inline(always)]
+fn feed_as(
+    kind: Name,
+    name: u8,
+    v: usize,
+    c: usize,
+    cells: &[i64],
+    marks: &[u8],
+    rows: Rows,
+) -> Running
+    requires said { kind ≡ named name }
+    requires room { FeedRoom name v c cells.now marks.now rows.at rows.count rows.width }
+    ensures { Fed name v c cells.now marks.now rows.at rows.count rows.width result }
+{
+    // only what is taken goes from turn to turn, so that it stays in registers
+    let mut taken = Running::new(name).taken;
+    for k in 0..rows.count {
+        let row = rows.at + k * rows.width;
+        let (v, c) = read(kind, v, c, cells, marks, row);
+        taken = Running { name: kind, taken }.add(v, c).taken;
+    }
+    Running { name: kind, taken }
+}
+
+// The same by its number alone, with a loop of its own for each name; out of line, so that the nine loops stand once.
+#[tactic(auto, using(rules::specs::Named::says_other))]
+#[inline(never)]
+fn feed_rows(name: u8, v: usize, c: usize, cells: &[i64], marks: &[u8], rows: Rows) -> Running
+    requires { FeedRoom name v c cells.now marks.now rows.at rows.count rows.width }
+    ensures { Fed name v c cells.now marks.now rows.at rows.count rows.width result }
+{
+    match Name::from(name) {
+        Name::Rows => feed_as(Name::Rows, name, v, c, cells, marks, rows),
+        Name::Count => feed_as(Name::Count, name, v, c, cells, marks, rows),
+        Name::Sum => feed_as(Name::Sum, name, v, c, cells, marks, rows),
+        Name::Least => feed_as(Name::Least, name, v, c, cells, marks, rows),
+        Name::Greatest => feed_as(Name::Greatest, name, v, c, cells, marks, rows),
+        Name::DistinctSum => feed_as(Name::DistinctSum, name, v, c, cells, marks, rows),
+        Name::DistinctCount => feed_as(Name::DistinctCount, name, v, c, cells, marks, rows),
+        Name::WeightedSum => feed_as(Name::WeightedSum, name, v, c, cells, marks, rows),
+        Name::WeightedCount => feed_as(Name::WeightedCount, name, v, c, cells, marks, rows),
+        // the contract asks for one of the nine
+        Name::Other(_) => Running::new(name),
+    }
+}
+
+// The same, by its number as `Running::new` takes it. A run of one row, as all are where the keys differ, is fed in place:
+// it takes less time than the call of the loops.
+#[inline(always)]
 fn feed(name: u8, v: usize, c: usize, cells: &[i64], marks: &[u8], rows: Rows) -> Running
     requires { FeedRoom name v c cells.now marks.now rows.at rows.count rows.width }
     ensures { Fed name v c cells.now marks.now rows.at rows.count rows.width result }
 {
-    let mut state = Running::new(name);
-    for k in 0..rows.count {
-        let row = rows.at + k * rows.width;
-        state = state.add(
-            cell_at(cells, marks, row + v),
-            cell_at(cells, marks, row + c),
-        );
+    if rows.count == 1 {
+        return feed_as(Name::from(name), name, v, c, cells, marks, rows);
     }
-    state
+    feed_rows(name, v, c, cells, marks, rows)
 }
 
 // Whether an aggregate wants its values ascending: a distinct one, over more than one row; by its number, as `running::distinct` takes it.

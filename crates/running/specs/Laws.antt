@@ -6,6 +6,7 @@ use Rattle.meaning.specs.Cells.{Cell}
 use Rattle.meaning.specs.Plans.{Row, Name, Rows, Count, Sum, Least, Greatest, DistinctSum, DistinctCount, WeightedSum, WeightedCount, Aggregate, name_of}
 use Rattle.meaning.specs.Rules.{rule}
 use Rattle.meaning.specs.Aggregating.{taken, made_of, answer}
+use Rattle.rules.specs.declared.Name as code
 use Rattle.rules.specs.Lines.{entry_of, line_of, name_at, names, is_null}
 use Rattle.numbers.specs.Integers.{false_true}
 use Rattle.regions.specs.Reading.{number_or_none}
@@ -68,13 +69,20 @@ module _ {n : Name} {xs : List ℤ} {st : Running} (t : Took n xs st) (v c : Opt
         rises = h;
       })
 
-  took_given : {ys : List ℤ} → Gives n v c ys → Rises n (xs ++ ys) → Took n (xs ++ ys) (add_to st v c)
+  -- after a row that gives these values the state has taken them too
+  pub took_given : {ys : List ℤ} → Gives n v c ys → Rises n (xs ++ ys) → Took n (xs ++ ys) (add_to st v c)
   took_given (nothing s) h = subst₂ (Took n) (sym (append-nil xs)) (add_not-taken st v c (rw t.named s)) t
   took_given (one z a same) h = pick (repeats_of st v) refl
     where
       pick : (b : Bool) → repeats_of st v ≡ b → Took n (xs ++ z ∷ []) (add_to st v c)
       pick true r = took_again z a (same (rw t.named at (repeats_distinct st v r))) h r
       pick false r = took_new z a same h r
+
+-- the same beside the name alone
+pub took_beside : {n : Name} {xs : List ℤ} {st : Running} {name : code.Name} → name ≡ called n → Took n xs st
+    → Took n xs (record { name = name; taken = st.taken })
+unfolding value_of
+took_beside e t = record { named = e; holds = t.holds; ends = t.ends; rises = t.rises }
 
 -- the new state has taken nothing
 pub took_none : (n : Name) → Took n [] (start_of (called n))
@@ -151,11 +159,15 @@ pub took_size : {n : Name} {xs : List ℤ} {st : Running} → Took n xs st → s
 took_size {n} {xs} t = rw t.holds (held_size n xs)
 
 -- what `add` requires, from a bound on the values with the next row's
+pub took_room-given : {n : Name} {xs ys : List ℤ} {st : Running} {v c : Option ℤ} → Took n xs st → Gives n v c ys → most_of n (xs ++ ys) < 2 ^ 63
+    → Room st v c
+took_room-given {n} {xs} {ys} {st} {v} {c} t g h =
+    let k : size_if (amount_of st.name v c) ≤ most_of n ys = rw t.named (given_size g) in
+    record { small = omega (arith, took_size t, k, most-append n xs ys) }
+
 pub took_room-cells : {n : Name} {xs : List ℤ} {st : Running} → Took n xs st → (p q : Cell) → most_of n (xs ++ taken_by n p q) < 2 ^ 63
     → RoomForCells st p q
-took_room-cells {n} {xs} {st} t p q h =
-    let g : size_if (amount_of st.name (number_or_none p) (number_or_none q)) ≤ most_of n (taken_by n p q) = rw t.named (given_size (gives n p q)) in
-    record { small = omega (arith, took_size t, g, most-append n xs (taken_by n p q)) }
+took_room-cells {n} t p q h = took_room-given t (gives n p q) h
 
 -- what `merge` requires, from a bound on the values of both
 pub took_room-both : {n : Name} {xs ys : List ℤ} {a b : Running} → Took n xs a → Took n ys b → most_of n (xs ++ ys) < 2 ^ 63

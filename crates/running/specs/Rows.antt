@@ -7,6 +7,7 @@ use Rattle.meaning.specs.Plans.{Row, Table, Name, Rows, Count, Sum, Least, Great
 use Rattle.meaning.specs.Joining.{cell}
 use Rattle.meaning.specs.Aggregating.{value, product, weight_of, taken, values_of, total, smallest, largest, into, ascending, made_of}
 use Rattle.numbers.specs.Integers.{false_true}
+use Rattle.rules.specs.declared.Name as code
 use Rattle.regions.specs.Reading.{number_or_none}
 use Rattle.running.specs.States.{distinct_of, product_if, amount_of, size_if}
 use Rattle.running.specs.Names.{called, is_distinct}
@@ -69,6 +70,15 @@ gives WeightedSum (num v) (num c) = one (v *ℤ c) (ap Some (sym (+ℤ_idr (v *�
 gives WeightedCount null q = nothing refl
 gives WeightedCount (num v) null = nothing refl
 gives WeightedCount (num v) (num c) = one c (ap Some (sym (+ℤ_idr c))) false_true
+
+-- these v' and c' may stand for v and c: they count for as much, and a distinct one reads v itself
+pub record Reads (name : code.Name) (v c v' c' : Option ℤ) : Type 0 where
+  pub counts : amount_of name v' c' ≡ amount_of name v c
+  pub same : distinct_of name ≡ true → v' ≡ v
+
+pub gives_read : {n : Name} {v c v' c' : Option ℤ} {ys : List ℤ} → Reads (called n) v c v' c' → Gives n v c ys → Gives n v' c' ys
+gives_read r (nothing s) = nothing (r.counts ∙ s)
+gives_read r (one z a same) = one z (r.counts ∙ a) (λ d. r.same d ∙ same d)
 
 -- the size of what a row adds is the most that is made of its values
 pub given_size : {n : Name} {v c : Option ℤ} {ys : List ℤ} → Gives n v c ys → size_if (amount_of (called n) v c) ≤ most_of n ys

@@ -1,7 +1,7 @@
 #![tactic(auto)]
 
 // A running aggregate: a state that takes rows one at a time, is merged with another, and answers.
-ghost use Rattle.std.specs.Prelude.{◌≡◌, ◌+◌, ◌<◌, ◌^◌, nat_abs};
+ghost use Rattle.std.specs.Prelude.{◌≡◌, ◌+◌, ◌<◌, ◌^◌, nat_abs, Some};
 ghost use Rattle.rules.specs.Named.{named};
 ghost use Rattle.running.specs.States.{distinct_of, repeats_of, size_if, amount_of, combine_of, empty_of, start_of, value_of, take_of, add_to, Room, merge_of, RoomForBoth, finish_of};
 
@@ -104,20 +104,17 @@ impl Running {
         is_distinct(self.name) && self.taken.is_some_and(|taken| taken.last == v)
     }
 
-    // The state with one amount more, and the v that it is of; the first amount is the value itself.
+    // What is taken with one amount more, and the v that it is of; the first amount is the value itself.
     #[tactic(auto, unfolding(crate::specs::States::take_of, crate::specs::States::combine_if, crate::specs::States::value_of, crate::specs::States::size_if))]
-    fn take(self, x: i64, last: Option<i64>) -> Running
+    fn take(self, x: i64, last: Option<i64>) -> Taken
         requires { size_if (value_of self) + nat_abs x < 2 ^ 63 }
-        ensures { result ≡ take_of self x last }
+        ensures { record { name = self.name; taken = Some result } ≡ take_of self x last }
     {
         let value = match self.taken {
             Some(taken) => combine(self.name, taken.value, x),
             None => x,
         };
-        Running {
-            taken: Some(Taken { value, last }),
-            ..self
-        }
+        Taken { value, last }
     }
 
     /// The state after one row more, by its cells v and c, None for null.
@@ -126,10 +123,12 @@ impl Running {
         requires { Room self v c }
         ensures { result ≡ add_to self v c }
     {
-        match amount(self.name, v, c) {
-            Some(x) if !self.repeats(v) => self.take(x, v),
-            _ => self,
-        }
+        // the name is not chosen with what is taken, so that it stays the same over all turns of a caller's loop
+        let taken = match amount(self.name, v, c) {
+            Some(x) if !self.repeats(v) => Some(self.take(x, v)),
+            _ => self.taken,
+        };
+        Running { taken, ..self }
     }
 
     /// The state over the rows of both, unless distinct.
@@ -139,7 +138,10 @@ impl Running {
         ensures { result ≡ merge_of self other }
     {
         match other.taken {
-            Some(theirs) if !is_distinct(self.name) => self.take(theirs.value, theirs.last),
+            Some(theirs) if !is_distinct(self.name) => Running {
+                taken: Some(self.take(theirs.value, theirs.last)),
+                ..self
+            },
             _ => self,
         }
     }
@@ -149,6 +151,6 @@ impl Running {
     pub fn finish(self) -> (Running, Option<i64>)
         ensures { result ≡ record { 0 = self; 1 = finish_of self } }
     {
-        (self, self.value().or(empty(self.name)))
+        (self, self.value().or_else(|| empty(self.name)))
     }
 }
