@@ -18,7 +18,7 @@ use shapes::Nodes;
 
 // What a node's parent needs of it: the refusal of its subtree, its width and kinds, numbers as `node_checks` takes them, the number of its
 // subtree's first node, and the width of its left input where it is a join, else 0: no Option, since `group_weights` takes the 0.
-// The kinds stand between, so that a table's zeros are written as its parent reads them: sixteen at once.
+// `kinds` stands before `split`, so that a table's sixteen zeros are written in one, as its parent reads them.
 #[derive(Clone, Copy)]
 struct Node {
     refusal: Option<Refusal>,

@@ -72,7 +72,7 @@ fn read(
 }
 
 // The state of an aggregate that has taken the rows, by its name, the number that says it, and its columns v and c.
-// Inlined where `feed_rows` says the name, so that the choice by name is made once, and not at each row.
+// Inlined where `feed_rows` says the name, so that the choice by name is made once, and not at each row; and in `feed`, for one row.
 #[inline(always)]
 fn feed_as(
     kind: Name,

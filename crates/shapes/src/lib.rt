@@ -83,7 +83,7 @@ fn pads(tag: Tag, lefts: usize, rights: usize) -> bool
     }
 }
 
-// The bytes of the join at a place, if a right one is there. It and `group_size` are out of line, so that the scans have the size of a table in line.
+// The bytes of the join at a place, if a right one is there. It and `group_size` are out of line, so that `shape_of` and `Nodes::new` measure a table in line.
 #[inline(never)]
 #[tactic(auto, using(crate::proofs::Ways::size_ways), unfolding(node_bytes::specs::Nodes::join_size))]
 fn join_size(s: &[u8], at: usize) -> Option<usize>

@@ -20,7 +20,7 @@ pub struct Lent<'a> {
 fn cell_right(cell: i64, mark: u8) -> bool
     ensures { result ≡ cell_right cell mark }
 {
-    // a null is told by its 0, which lies in the range: one test of the mark, and no jump that hangs on which cells are null
+    // a null's 0 lies in the range, so one comparison of the mark is left, 0, or 1 beside a 0: no jump hangs on which cells are null
     (-2147483647..=2147483647).contains(&cell) && mark <= u8::from(cell == 0)
 }
 
