@@ -57,7 +57,7 @@ RefusesGroup s at i out =
 
 -- the node that the code makes of a grouping
 pub record GroupMade (s : List ℕ) (at : ℕ) (i out : Node) : Type 0 where
-  pub number : number_if out.refusal ≡ verdict (number_if i.refusal) (group_within_at s at) (group_columns_at s at i.width) (group_weights_at s at i.split i.kinds)
+  pub number : RefusesGroup s at i out.refusal
   pub wide : out.width ≡ byte s (at + 1) + byte s (at + 2)
   pub starts : out.first ≡ i.first
   pub parted : out.split ≡ 0

@@ -75,7 +75,7 @@ RefusesJoin s at l r out =
 
 -- the node that the code makes of a join
 pub record JoinMade (s : List ℕ) (at : ℕ) (l r out : Node) : Type 0 where
-  pub number : number_if out.refusal ≡ verdict (lesser (number_if l.refusal) (number_if r.refusal)) (join_within_at s at l.width r.width) (join_columns_at s at l.width r.width) (join_weights_at s at l.kinds r.kinds)
+  pub number : RefusesJoin s at l r out.refusal
   pub wide : out.width ≡ l.width + r.width
   pub starts : out.first ≡ l.first
   pub parted : out.split ≡ l.width
